@@ -2,7 +2,7 @@
 use Rattle.std.specs.Prelude.{◌≡◌, ℕ, List, [], Option, Some}
 use Rattle.inp_uinput.specs.UdevView.{owned_view}
 use Rattle.inp_reader.specs.declared.started.Started.{Started}
-use Rattle.inp_reader.specs.Says.{Says}
+use Rattle.inp_reader.specs.FollowsTalk.{FollowsTalk}
 use Rattle.inp_reader.specs.LeftEvdev.{LeavesMade}
 use Rattle.inp_joy.specs.declared.joy_read.JoyRead.{JoyRead}
 use Rattle.inp_joy.specs.declared.joy_read.JoyRead.TheVariants.{Record, Frame, Again, NoDevice, Closed, Full, More}
@@ -19,7 +19,7 @@ use Rattle.inp_c.specs.ReaderCalls.{start_refusal}
 -- The joystick client started: its calls on the device are those of a start, and this is its answer. What the device's
 -- owner has is as before (`IsKeptStart`).
 pub record IsKeptJoyStart (old new : KeptDevice) (answer : Started) : Type 0 where
-  pub says : Says (owned_view old.udev) (owned_view new.udev) [] new.joy.made (joy_start old.joy.description old.joy.joying) (answer, new.joy.joying)
+  pub says : FollowsTalk (owned_view old.udev) (owned_view new.udev) [] new.joy.made (joy_start old.joy.description old.joy.joying) (answer, new.joy.joying)
   pub left : LeavesMade (owned_view old.udev) (owned_view new.udev) new.joy.made
   pub agains : new.udev.agains ≡ old.udev.agains
   pub description : new.udev.description ≡ old.udev.description

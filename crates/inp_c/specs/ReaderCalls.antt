@@ -9,7 +9,7 @@ use Rattle.inp_reader.specs.declared.next.Next.TheVariants.{Success, Dropped, Sy
 use Rattle.inp_reader.specs.declared.started.Started.{Started}
 use Rattle.inp_reader.specs.declared.started.Started.TheVariants.{Opened, Refused}
 use Rattle.inp_reader.specs.Reader.{start_talk, next_talk, with_sync_needed}
-use Rattle.inp_reader.specs.Says.{Says}
+use Rattle.inp_reader.specs.FollowsTalk.{FollowsTalk}
 use Rattle.inp_reader.specs.LeftEvdev.{LeavesMade, agains_after_next}
 use Rattle.inp_c.specs.declared.kept.Kept.{Kept}
 use Rattle.inp_c.specs.declared.kept.Kept.TheVariants.{Device}
@@ -21,7 +21,7 @@ use Rattle.inp_c.specs.Told.{told_untimed, refusal_number}
 -- The reader started: its calls on the device are those of a start, and this is its answer. What the device's owner took
 -- and what waits for it are as before, since the calls keep the tie of `owned_view`.
 pub record IsKeptStart (old new : KeptDevice) (answer : Started) : Type 0 where
-  pub says : Says (owned_view old.udev) (owned_view new.udev) [] new.reader.made (start_talk old.reader.description old.reader.reading) (answer, new.reader.reading)
+  pub says : FollowsTalk (owned_view old.udev) (owned_view new.udev) [] new.reader.made (start_talk old.reader.description old.reader.reading) (answer, new.reader.reading)
   pub left : LeavesMade (owned_view old.udev) (owned_view new.udev) new.reader.made
   pub agains : new.udev.agains ≡ old.udev.agains
   pub description : new.udev.description ≡ old.udev.description
@@ -30,7 +30,7 @@ pub record IsKeptStart (old new : KeptDevice) (answer : Started) : Type 0 where
 -- The reader went on: its calls on the device are those of its next event, and this is its answer. What the owner has is
 -- as before.
 pub record IsKeptNext (old new : KeptDevice) (mode : Mode) (answer : Next) : Type 0 where
-  pub says : Says (owned_view old.udev) (owned_view new.udev) [] new.reader.made (next_talk old.reader.description mode old.reader.reading) (answer, new.reader.reading)
+  pub says : FollowsTalk (owned_view old.udev) (owned_view new.udev) [] new.reader.made (next_talk old.reader.description mode old.reader.reading) (answer, new.reader.reading)
   pub left : LeavesMade (owned_view old.udev) (owned_view new.udev) new.reader.made
   pub agains : new.udev.agains ≡ agains_after_next answer old.udev.agains
   pub description : new.udev.description ≡ old.udev.description

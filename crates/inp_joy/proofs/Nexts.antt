@@ -21,7 +21,7 @@ use Rattle.inp_reader.specs.declared.next.Next.{Next}
 use Rattle.inp_reader.specs.declared.next.Next.TheVariants.{Success, Dropped, Sync, Synced}
 use Rattle.inp_reader.specs.declared.started.Started.{Started}
 use Rattle.inp_reader.specs.declared.started.Started.TheVariants.{Opened as StartedOn, Refused}
-use Rattle.inp_reader.specs.Reader.{Reading, start_stop_of, after_queries, start_talk, ask_each, queries}
+use Rattle.inp_reader.specs.Reader.{ReaderState, start_stop_of, after_queries, start_talk, ask_each, queries}
 use Rattle.inp_reader.specs.Reader.{stop_of as reader_stop, sync_talk, next_talk, hand_synthesised}
 use Rattle.inp_reader.specs.Reader.{after_full_sync, after_failed_sync}
 use Rattle.inp_reader.specs.ReaderPlace.{is_needed}
@@ -35,23 +35,23 @@ use Rattle.inp_joy.specs.Joy.{joy_read_of}
 -- In Normal mode, where no synchronisation is needed
 
 -- an event sets the view and SYN_DROPPED the phase; else both stay, and nothing is synthesised
-abbrev pub IsTaken : View → Next → Reading → Type 0
+abbrev pub IsTaken : View → Next → ReaderState → Type 0
 IsTaken view (Success taken) s = (s.view ≡ view_after_event view taken.event) × (is_needed s.phase ≡ false)
 IsTaken view (Dropped taken) s = is_needed s.phase ≡ true
 IsTaken view (Sync event) s = ⊥
 IsTaken view Synced s = ⊥
 IsTaken view _ s = (s.view ≡ view) × (is_needed s.phase ≡ false)
 
-taken-stopped : (r : Reading) (reply : Reply) → is_needed r.phase ≡ false
+taken-stopped : (r : ReaderState) (reply : Reply) → is_needed r.phase ≡ false
     → IsTaken r.view (reader_stop reply) r
 taken-stopped r reply plain =
     stop-cases (λ next. IsTaken r.view next r) reply (λ at ends is. (refl, plain)) (refl, plain) (refl, plain)
     (λ at. (refl, plain))
 
-abbrev HasStill : View → Unit {0} → Reading → Type 0
+abbrev HasStill : View → Unit {0} → ReaderState → Type 0
 HasStill view s r = (r.view ≡ view) × (is_needed r.phase ≡ false)
 
-abbrev Takes : View → Unit {0} → Next × Reading → Type 0
+abbrev Takes : View → Unit {0} → Next × ReaderState → Type 0
 Takes view s o = IsTaken view o.0 o.1
 
 no_sync : (phase : Phase) → phase ≡ Needed → is_needed phase ≡ false → ⊥
@@ -73,7 +73,7 @@ taken-rules d view = record {
 }
 
 -- without a synchronisation, `next` changes the view by an event alone, and the phase by a loss alone
-pub next-taken : (d : Description) (r : Reading) (calls : List Call) (result : Next × Reading)
+pub next-taken : (d : Description) (r : ReaderState) (calls : List Call) (result : Next × ReaderState)
     → is_needed r.phase ≡ false → EndsWith (next_talk d Normal r) calls result
     → IsTaken r.view result.0 result.1
 next-taken d r calls result plain ends =
@@ -83,21 +83,21 @@ next-taken d r calls result plain ends =
 -- In Sync mode, where a synchronisation is needed
 
 -- none is needed any more, unless it was stopped
-abbrev pub IsSynced : Next → Reading → Type 0
+abbrev pub IsSynced : Next → ReaderState → Type 0
 IsSynced (Success taken) s = ⊥
 IsSynced (Dropped taken) s = ⊥
 IsSynced (Sync event) s = is_needed s.phase ≡ false
 IsSynced Synced s = is_needed s.phase ≡ false
 IsSynced _ s = is_needed s.phase ≡ true
 
-synced-stopped : (s : Reading) (reply : Reply) → is_needed s.phase ≡ true → IsSynced (reader_stop reply) s
+synced-stopped : (s : ReaderState) (reply : Reply) → is_needed s.phase ≡ true → IsSynced (reader_stop reply) s
 synced-stopped s reply h = stop-cases (λ next. IsSynced next s) reply (λ at ends is. h) h h (λ at. h)
 
-abbrev Syncs : Unit {0} → Next × Reading → Type 0
+abbrev Syncs : Unit {0} → Next × ReaderState → Type 0
 Syncs s o = IsSynced o.0 o.1
 
 -- after a synchronisation none is needed, unless a reply stopped it
-pub next-synced : (d : Description) (r : Reading) (calls : List Call) (result : Next × Reading)
+pub next-synced : (d : Description) (r : ReaderState) (calls : List Call) (result : Next × ReaderState)
     → is_needed r.phase ≡ true → EndsWith (next_talk d Synchronising r) calls result
     → IsSynced result.0 result.1
 next-synced d r calls result needed ends =
@@ -106,7 +106,7 @@ next-synced d r calls result needed ends =
     (meets-always AnyAnswer (Handed Syncs r) tt (sync_talk d r) so)) (any-run calls) ends
   where
     made : (view : View) (left : List Event)
-        → (let o : Next × Reading = hand_synthesised (after_full_sync r view) left in IsSynced o.0 o.1)
+        → (let o : Next × ReaderState = hand_synthesised (after_full_sync r view) left in IsSynced o.0 o.1)
     made view [] = refl
     made view (event ∷ left) = refl
 
@@ -148,10 +148,10 @@ stops reply =
     stop-cases (λ next. joy_read_of next ≡ None → ⊥) reply (λ at ends is h. cc) (λ h. cc)
     (λ h. cc) (λ at h. cc)
 
-abbrev AreSoFar : Bool → Reading → Type 0
+abbrev AreSoFar : Bool → ReaderState → Type 0
 AreSoFar b r = b ≡ true
 
-abbrev AreWhereOn : Bool → Next × Reading → Type 0
+abbrev AreWhereOn : Bool → Next × ReaderState → Type 0
 AreWhereOn b o = joy_read_of o.0 ≡ None → b ≡ true
 
 accepted-rules : (d : Description) (mode : Mode) → NextRules Any Accepting AreSoFar AreWhereOn d mode
@@ -177,8 +177,8 @@ accepted-rules d mode = record {
 }
 
 -- a reply that was not accepted stops the reader, so where it did not stop all calls were accepted
-pub next-accepted : (d : Description) (mode : Mode) (r : Reading) (calls : List Call)
-    (result : Next × Reading) → joy_read_of result.0 ≡ None → EndsWith (next_talk d mode r) calls result
+pub next-accepted : (d : Description) (mode : Mode) (r : ReaderState) (calls : List Call)
+    (result : Next × ReaderState) → joy_read_of result.0 ≡ None → EndsWith (next_talk d mode r) calls result
     → AreAccepted calls
 next-accepted d mode r calls result goes ends =
     are-accepted calls
@@ -186,7 +186,7 @@ next-accepted d mode r calls result goes ends =
     (all_accepted true calls) r calls result refl (accepting-run true calls) ends goes)
 
 -- after lost events a synchronisation is needed
-pub lost-needed : (d : Description) (r s : Reading) (calls : List Call) (taken : Taken)
+pub lost-needed : (d : Description) (r s : ReaderState) (calls : List Call) (taken : Taken)
     → is_needed r.phase ≡ false → EndsWith (next_talk d Normal r) calls (Dropped taken, s)
     → is_needed s.phase ≡ true
 lost-needed d r s calls taken plain h = next-taken d r calls (Dropped taken, s) plain h
@@ -194,27 +194,27 @@ lost-needed d r s calls taken plain h = next-taken d r calls (Dropped taken, s) 
 -- Starting
 
 -- a start that is refused leaves the reader as it was, or to synchronise
-abbrev pub IsLeftByStart : Reading → Started → Reading → Type 0
+abbrev pub IsLeftByStart : ReaderState → Started → ReaderState → Type 0
 IsLeftByStart r (StartedOn client ring) s = Unit {0}
 IsLeftByStart r (Refused at why) s = (s ≡ r) ⊎ (is_needed s.phase ≡ true)
 
-left-stopped : (r s : Reading) (reply : Reply) → (s ≡ r) ⊎ (is_needed s.phase ≡ true)
+left-stopped : (r s : ReaderState) (reply : Reply) → (s ≡ r) ⊎ (is_needed s.phase ≡ true)
     → IsLeftByStart r (start_stop_of reply) s
 left-stopped r s (StepRefused at why) h = h
 left-stopped r s _ h = h
 
-left-queries : (client ring : ℕ) (r : Reading) (asked : Result View Reply)
-    → (let o : Started × Reading = after_queries client ring r asked in IsLeftByStart r o.0 o.1)
+left-queries : (client ring : ℕ) (r : ReaderState) (asked : Result View Reply)
+    → (let o : Started × ReaderState = after_queries client ring r asked in IsLeftByStart r o.0 o.1)
 left-queries client ring r (Ok view) = tt
 left-queries client ring r (Err reply) =
     left-stopped r (record { client = client; queue = []; view = r.view; phase = Needed; left = [] })
     reply (inr refl)
 
 -- a refused open changes nothing, and a refused query leaves a synchronisation needed
-pub start-left : (d : Description) (r : Reading) (calls : List Call) (result : Started × Reading)
+pub start-left : (d : Description) (r : ReaderState) (calls : List Call) (result : Started × ReaderState)
     → EndsWith (start_talk d r) calls result → IsLeftByStart r result.0 result.1
 start-left d r calls result ends =
-    let Q : Unit {0} → Started × Reading → Type 0 = λ s o. IsLeftByStart r o.0 o.1 in
+    let Q : Unit {0} → Started × ReaderState → Type 0 = λ s o. IsLeftByStart r o.0 o.1 in
     meets-ends Any AnyAnswer Q tt tt (start_talk d r) calls result
     (start-meets Any AnyAnswer Q d r tt (record {
       asks_open = tt;

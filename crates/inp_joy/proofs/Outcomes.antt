@@ -15,7 +15,8 @@ use Rattle.inp_joy.specs.declared.joy_read.JoyRead.TheVariants.{Frame, More}
 use Rattle.inp_joy.specs.declared.joy_record.JoyRecord.{JoyRecord}
 use Rattle.inp_joy.specs.declared.turn_end.TurnEnd.{TurnEnd}
 use Rattle.inp_joy.specs.declared.turn_end.TurnEnd.TheVariants.{Hands, Stops, GoesOn}
-use Rattle.inp_joy.specs.Joy.{Joying, JoyTurn, gives, goes_on, hand_out_record, joy_read_of, joy_record_of}
+use Rattle.inp_joy.specs.Joy.{JoystickState, JoyTurn, gives, goes_on, hand_out_record, joy_read_of}
+use Rattle.inp_joy.specs.Joy.{joy_record_of}
 use Rattle.inp_joy.specs.Joy.{record_or_on, joying_after_next}
 use Rattle.inp_joy.specs.Kept.{turn_of_end, TurnEndShows, TurnEndPictures, IsTurnEndLess}
 use Rattle.inp_joy.specs.Picture.{picture_of_view}
@@ -42,12 +43,12 @@ pub sync-shows : (told : EvdevView) (r : ReaderView) (next : Next) (read : JoyRe
     → Some read ≡ joy_read_of next → TurnEndShows told r (Stops read)
 sync-shows told r next read h = rw (← h) at (stop-shows told r next)
 
-record_or_on-shows : (told : EvdevView) (r : ReaderView) (j : Joying) (o : Option JoyRecord)
+record_or_on-shows : (told : EvdevView) (r : ReaderView) (j : JoystickState) (o : Option JoyRecord)
     → TurnEndShows told r (Stops (read_of (record_or_on j o)))
 record_or_on-shows told r j None = tt
 record_or_on-shows told r j (Some joy_record) = tt
 
-next-read_shows : (told : EvdevView) (r : ReaderView) (d : Description) (j : Joying) (next : Next)
+next-read_shows : (told : EvdevView) (r : ReaderView) (d : Description) (j : JoystickState) (next : Next)
     → AnswerShows told r next → TurnEndShows told r (Stops (read_of (joying_after_next d j next)))
 next-read_shows told r d j (Success taken) h =
     cond_both (is_report taken.event) _ _ (λ x. TurnEndShows told r (Stops (read_of x)))
@@ -55,7 +56,7 @@ next-read_shows told r d j (Success taken) h =
 next-read_shows told r d j _ h = tt
 
 -- a report that the reader handed out ends a frame
-pub next-shows : (told : EvdevView) (r : ReaderView) (d : Description) (j k : Joying) (next : Next)
+pub next-shows : (told : EvdevView) (r : ReaderView) (d : Description) (j k : JoystickState) (next : Next)
     (outcome : TurnEnd) → turn_of_end outcome k ≡ joying_after_next d j next → AnswerShows told r next
     → TurnEndShows told r outcome
 next-shows told r d j k next (Hands joy_record) is h = tt
@@ -63,7 +64,8 @@ next-shows told r d j k next (Stops read) is h = rw (← is) at (next-read_shows
 next-shows told r d j k next GoesOn is h = tt
 
 -- a record that was handed out is no frame
-pub hand_out_record-pictures : (told : EvdevView) (d : Description) (j k : Joying) (joy_record : JoyRecord)
+pub hand_out_record-pictures : (told : EvdevView) (d : Description) (j k : JoystickState)
+    (joy_record : JoyRecord)
     (outcome : TurnEnd) → turn_of_end outcome k ≡ gives (hand_out_record j joy_record)
     → TurnEndPictures told d k outcome
 hand_out_record-pictures told d j k joy_record (Hands other) is = tt
@@ -72,7 +74,7 @@ hand_out_record-pictures told d j k joy_record (Stops read) is =
 hand_out_record-pictures told d j k joy_record GoesOn is = tt
 
 -- where the picture shows the view at the end of a frame, it is the device's there
-shown-device : (told : EvdevView) (d : Description) (k : Joying) (place : ℕ) (taken : Taken)
+shown-device : (told : EvdevView) (d : Description) (k : JoystickState) (place : ℕ) (taken : Taken)
     → taken.place ≡ place → ShowsTheDevice d (reverse told.seen) k.reading taken
     → k.picture ≡ picture_of_view d k.reading.view → PicturesTheDevice d (reverse told.seen) k place
 shown-device told d k place taken at h shown = record {
@@ -83,7 +85,7 @@ shown-device told d k place taken at h shown = record {
       ∙ device-pictured d f.cut.until k.reading.view (h.shows f report followed);
 }
 
-stop-pictures : (told : EvdevView) (d : Description) (r : ReaderView) (k : Joying) (read : JoyRead)
+stop-pictures : (told : EvdevView) (d : Description) (r : ReaderView) (k : JoystickState) (read : JoyRead)
     → r.reading ≡ k.reading → r.description ≡ d → IsTurnPictured d (turn_of_end (Stops read) k)
     → TurnEndShows told r (Stops read) → TurnEndPictures told d k (Stops read)
 stop-pictures told d r k (Frame place) same is shown h =
@@ -92,8 +94,8 @@ stop-pictures told d r k (Frame place) same is shown h =
 stop-pictures told d r k _ same is shown h = tt
 
 -- where a turn ends a frame, its picture shows the view, and that is the device's state
-pub shows-pictures : (told : EvdevView) (d : Description) (r : ReaderView) (k : Joying) (outcome : TurnEnd)
-    → r.reading ≡ k.reading → r.description ≡ d → IsTurnPictured d (turn_of_end outcome k)
+pub shows-pictures : (told : EvdevView) (d : Description) (r : ReaderView) (k : JoystickState)
+    (outcome : TurnEnd) → r.reading ≡ k.reading → r.description ≡ d → IsTurnPictured d (turn_of_end outcome k)
     → TurnEndShows told r outcome → TurnEndPictures told d k outcome
 shows-pictures told d r k (Hands joy_record) same is shown h = tt
 shows-pictures told d r k (Stops read) same is shown h = stop-pictures told d r k read same is shown h
@@ -106,14 +108,14 @@ abbrev IsTurnLess : JoyTurn → ℕ → ℕ → Type 0
 IsTurnLess (gives answer) after before = IsReadLess answer.read after before
 IsTurnLess (goes_on j) after before = after < before
 
-outcome-less : (k : Joying) (outcome : TurnEnd) (turn : JoyTurn) (after before : ℕ)
+outcome-less : (k : JoystickState) (outcome : TurnEnd) (turn : JoyTurn) (after before : ℕ)
     → turn_of_end outcome k ≡ turn → IsTurnLess turn after before → IsTurnEndLess outcome after before
 outcome-less k (Hands r) turn after before is h = tt
 outcome-less k (Stops read) turn after before is h = rw (← is) at h
 outcome-less k GoesOn turn after before is h = rw (← is) at h
 
 -- a record of the startup
-pub startup-less : (j k : Joying) (r : JoyRecord) (outcome : TurnEnd) (after before : ℕ)
+pub startup-less : (j k : JoystickState) (r : JoyRecord) (outcome : TurnEnd) (after before : ℕ)
     → turn_of_end outcome k ≡ gives (hand_out_record j r) → IsTurnEndLess outcome after before
 startup-less j k r outcome after before is =
     outcome-less k outcome (gives (hand_out_record j r)) after before is tt
@@ -133,13 +135,13 @@ stop-less next read after before is = rw (← is) at (by_next next)
     by_next _ = tt
 
 -- an answer of the reader that lost no events
-record_or_on-less : (j : Joying) (o : Option JoyRecord) (after before : ℕ) → after < before
+record_or_on-less : (j : JoystickState) (o : Option JoyRecord) (after before : ℕ) → after < before
     → IsTurnLess (record_or_on j o) after before
 record_or_on-less j None after before h = h
 record_or_on-less j (Some r) after before h = tt
 
-after_next-less : (d : Description) (j : Joying) (next : Next) (after before : ℕ) → IsLess next after before
-    → IsTurnLess (joying_after_next d j next) after before
+after_next-less : (d : Description) (j : JoystickState) (next : Next) (after before : ℕ)
+    → IsLess next after before → IsTurnLess (joying_after_next d j next) after before
 after_next-less d j (Success taken) after before h =
     cond_both (is_report taken.event) _ _ (λ x. IsTurnLess x after before)
     (λ _. h) (λ _. record_or_on-less j (joy_record_of d j.picture taken) after before h)
@@ -149,7 +151,7 @@ after_next-less d j Synced after before h = h
 after_next-less d j _ after before h = tt
 
 -- what the reader left less of is less after the turn, where it gives a frame or goes on
-pub next-less : (d : Description) (j k : Joying) (next : Next) (outcome : TurnEnd) (after before : ℕ)
+pub next-less : (d : Description) (j k : JoystickState) (next : Next) (outcome : TurnEnd) (after before : ℕ)
     → turn_of_end outcome k ≡ joying_after_next d j next → IsLess next after before
     → IsTurnEndLess outcome after before
 next-less d j k next outcome after before is h =

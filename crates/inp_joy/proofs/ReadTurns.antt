@@ -10,12 +10,13 @@ use Rattle.inp_model.specs.Leaves.{AreCalls}
 use Rattle.inp_model.specs.Run.{Call}
 use Rattle.inp_model.proofs.Leaves.{AreCalls-append}
 use Rattle.inp_reader.specs.declared.call_made.CallMade.{CallMade}
-use Rattle.inp_reader.specs.Says.{Says, calls_kept, kept_call}
+use Rattle.inp_reader.specs.FollowsTalk.{FollowsTalk, calls_kept, kept_call}
 use Rattle.inp_reader.specs.Talk.{Talk, finish, LeadsTo, EndsWith, ask}
 use Rattle.inp_reader.proofs.Talks.{LeadsTo-append, LeadsTo-and_then, calls_kept-append}
 use Rattle.inp_joy.specs.declared.turn_end.TurnEnd.{TurnEnd}
 use Rattle.inp_joy.specs.declared.turn_end.TurnEnd.TheVariants.{Hands, Stops, GoesOn}
-use Rattle.inp_joy.specs.Joy.{Joying, JoyAnswer, JoyTurn, goes_on, is_startup_over, turn_talk, with_count}
+use Rattle.inp_joy.specs.Joy.{JoystickState, JoyAnswer, JoyTurn, goes_on, is_startup_over, turn_talk}
+use Rattle.inp_joy.specs.Joy.{with_count}
 use Rattle.inp_joy.specs.Joy.{after_turn, turns}
 use Rattle.inp_joy.specs.Kept.{answer_of_turn, turn_of_end, is_end, IsTurnEndLess, agains_after_turn}
 use Rattle.inp_joy.specs.Kept.{HasTurned}
@@ -56,7 +57,7 @@ count-kept (call ∷ calls) n h =
     rw (h.0, count-kept calls (n + 1) h.1) (omega (arith, one, long))
 
 -- so many turns were made, all calls of which were accepted and kept, and the read goes on from here
-pub record Passed (before now : EvdevView) (d : Description) (start here : Joying)
+pub record Passed (before now : EvdevView) (d : Description) (start here : JoystickState)
     (made : List CallMade) : Type 0 where
   -- how many turns were made
   pub count : ℕ
@@ -70,8 +71,8 @@ pub record Passed (before now : EvdevView) (d : Description) (start here : Joyin
   pub kept : made ≡ calls_kept calls
 
 -- before the first turn no call was made, and all turns remain
-pub passed-none : (told : EvdevView) (d : Description) (start : Joying) (made : List CallMade) → made ≡ []
-    → Passed told told d start start made
+pub passed-none : (told : EvdevView) (d : Description) (start : JoystickState) (made : List CallMade)
+    → made ≡ [] → Passed told told d start start made
 unfolding LeadsTo AreCalls
 passed-none told d start made none = record {
   count = 0;
@@ -84,7 +85,7 @@ passed-none told d start made none = record {
 }
 
 -- one turn more, and what follows it
-one_turn : (d : Description) (here : Joying) (turn : JoyTurn) (n count : ℕ) (calls : List Call)
+one_turn : (d : Description) (here : JoystickState) (turn : JoyTurn) (n count : ℕ) (calls : List Call)
     → EndsWith (turn_talk d here) calls turn
     → LeadsTo (turns d (suc n) count here) calls (after_turn d (turns d n) (count_after calls count) turn)
 unfolding turns
@@ -94,29 +95,30 @@ one_turn d here turn n count calls h =
     (with_count-ends (turn_talk d here) calls turn count h)
 
 -- a turn after which no other one follows
-ended : (d : Description) (go_on : ℕ → Joying → Talk (Option JoyAnswer)) (n : ℕ) (outcome : TurnEnd)
-    (j : Joying) → is_end d outcome j n ≡ true
+ended : (d : Description) (go_on : ℕ → JoystickState → Talk (Option JoyAnswer)) (n : ℕ) (outcome : TurnEnd)
+    (j : JoystickState) → is_end d outcome j n ≡ true
     → after_turn d go_on n (turn_of_end outcome j) ≡ finish (Some (answer_of_turn outcome j))
 ended d go_on n (Hands r) j h = refl
 ended d go_on n (Stops read) j h = refl
 ended d go_on n GoesOn j h = rw h
 
 -- another one
-goes : (d : Description) (go_on : ℕ → Joying → Talk (Option JoyAnswer)) (n : ℕ) (outcome : TurnEnd)
-    (j : Joying) → is_end d outcome j n ≡ false → after_turn d go_on n (turn_of_end outcome j) ≡ go_on n j
+goes : (d : Description) (go_on : ℕ → JoystickState → Talk (Option JoyAnswer)) (n : ℕ) (outcome : TurnEnd)
+    (j : JoystickState) → is_end d outcome j n ≡ false
+    → after_turn d go_on n (turn_of_end outcome j) ≡ go_on n j
 goes d go_on n (Hands r) j h = absurd (true≢false h)
 goes d go_on n (Stops read) j h = absurd (true≢false h)
 goes d go_on n GoesOn j h = rw h
 
 -- it goes on alone where it is no end
-only-on : (d : Description) (outcome : TurnEnd) (j : Joying) (n : ℕ) → is_end d outcome j n ≡ false
+only-on : (d : Description) (outcome : TurnEnd) (j : JoystickState) (n : ℕ) → is_end d outcome j n ≡ false
     → outcome ≡ GoesOn
 only-on d (Hands r) j n h = absurd (true≢false h)
 only-on d (Stops read) j n h = absurd (true≢false h)
 only-on d GoesOn j n h = refl
 
 -- the count of the calls that were accepted is that of those that were kept
-with_count-kept : (d : Description) (here next : Joying) (calls : List Call) (made new : List CallMade)
+with_count-kept : (d : Description) (here next : JoystickState) (calls : List Call) (made new : List CallMade)
     → EndsWith (turn_talk d here) calls (goes_on next) → new ≡ made ++ calls_kept calls
     → count_after calls (length made) ≡ length new
 with_count-kept d here next calls made new h kept =
@@ -124,9 +126,9 @@ with_count-kept d here next calls made new h kept =
     ∙ sym (ap length kept ∙ length-append made (calls_kept calls))
 
 -- after a turn that goes on
-pub passed-more : (before between after : EvdevView) (d : Description) (start here next : Joying)
+pub passed-more : (before between after : EvdevView) (d : Description) (start here next : JoystickState)
     (made new : List CallMade) (outcome : TurnEnd) → Passed before between d start here made
-    → Says between after made new (turn_talk d here) (turn_of_end outcome next)
+    → FollowsTalk between after made new (turn_talk d here) (turn_of_end outcome next)
     → is_end d outcome next (length new) ≡ false → Passed before after d start next new
 passed-more before between after d start here next made new outcome s h on =
     let ends : EndsWith (turn_talk d here) h.calls (goes_on next) =
@@ -144,7 +146,7 @@ passed-more before between after d start here next made new outcome s h on =
     }
 
 -- the number of accepted calls after the last turn, where that matters
-end-with_count : (d : Description) (here next : Joying) (calls : List Call) (made new : List CallMade)
+end-with_count : (d : Description) (here next : JoystickState) (calls : List Call) (made new : List CallMade)
     (outcome : TurnEnd) → EndsWith (turn_talk d here) calls (turn_of_end outcome next)
     → new ≡ made ++ calls_kept calls → is_end d outcome next (length new) ≡ true
     → is_end d outcome next (count_after calls (length made)) ≡ true
@@ -154,9 +156,9 @@ end-with_count d here next calls made new GoesOn h kept end =
     rw (with_count-kept d here next calls made new h kept) end
 
 -- after the last one
-pub passed-last : (before between after : EvdevView) (d : Description) (start here next : Joying)
+pub passed-last : (before between after : EvdevView) (d : Description) (start here next : JoystickState)
     (made new : List CallMade) (outcome : TurnEnd) → Passed before between d start here made
-    → Says between after made new (turn_talk d here) (turn_of_end outcome next)
+    → FollowsTalk between after made new (turn_talk d here) (turn_of_end outcome next)
     → is_end d outcome next (length new) ≡ true
     → HasTurned before after d start new (answer_of_turn outcome next)
 passed-last before between after d start here next made new outcome s h end = record {
@@ -178,19 +180,19 @@ passed-last before between after d start here next made new outcome s h end = re
 -- What a turn that goes on leaves
 
 -- a turn that is no end goes on, and one that goes on leaves less
-pub on-less : (d : Description) (outcome : TurnEnd) (j : Joying) (n after before : ℕ)
+pub on-less : (d : Description) (outcome : TurnEnd) (j : JoystickState) (n after before : ℕ)
     → is_end d outcome j n ≡ false → IsTurnEndLess outcome after before → after < before
 on-less d outcome j n after before on h = rw (only-on d outcome j n on) at h
 
 -- with the startup over a read ends at 64 accepted calls, so one that goes on has fewer
-pub on-short : (d : Description) (outcome : TurnEnd) (j : Joying) (n : ℕ) → is_end d outcome j n ≡ false
-    → is_startup_over d j ≡ true → n < 64
+pub on-short : (d : Description) (outcome : TurnEnd) (j : JoystickState) (n : ℕ)
+    → is_end d outcome j n ≡ false → is_startup_over d j ≡ true → n < 64
 on-short d (Hands r) j n on over = absurd (true≢false on)
 on-short d (Stops read) j n on over = absurd (true≢false on)
 on-short d GoesOn j n on over =
     let few : nat_le 64 n ≡ false = sym (rw over) ∙ on in grind (arith, nat_tests, few)
 
 -- a turn that is no end gives no answer Again, so their count stays
-pub on-agains : (d : Description) (outcome : TurnEnd) (j : Joying) (n count : ℕ)
+pub on-agains : (d : Description) (outcome : TurnEnd) (j : JoystickState) (n count : ℕ)
     → is_end d outcome j n ≡ false → agains_after_turn outcome count ≡ count
 on-agains d outcome j n count on = rw (only-on d outcome j n on)

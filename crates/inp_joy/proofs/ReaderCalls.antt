@@ -6,8 +6,8 @@ use Rattle.inp_reader.specs.declared.call_made.CallMade.{CallMade}
 use Rattle.inp_reader.specs.declared.mode.Mode.{Mode}
 use Rattle.inp_reader.specs.declared.next.Next.{Next}
 use Rattle.inp_reader.specs.LeftEvdev.{LeavesMade}
-use Rattle.inp_reader.specs.Reader.{Reading, ReaderView, next_talk}
-use Rattle.inp_reader.specs.Says.{Says}
+use Rattle.inp_reader.specs.Reader.{ReaderState, ReaderView, next_talk}
+use Rattle.inp_reader.specs.FollowsTalk.{FollowsTalk}
 use Rattle.inp_reader.specs.TrueView.{AnswerShows}
 use Rattle.inp_reader.specs.ReaderPlace.{Stands, IsAlone}
 use Rattle.inp_reader.proofs.Calls.{alone-first, alone-then, leaves_made-none, leaves_made-then}
@@ -16,8 +16,8 @@ use Rattle.inp_joy.specs.Kept.{ReaderCalls}
 
 -- one `next`
 pub calls-next : (before after : EvdevView) (old new : List CallMade) (mode : Mode) (r s : ReaderView)
-    (next : Next) → Says before after [] s.made (next_talk r.description mode r.reading) (next, s.reading)
-    → s.description ≡ r.description → LeavesMade before after s.made → new ≡ old ++ s.made
+    (next : Next) → FollowsTalk before after [] s.made (next_talk r.description mode r.reading)
+    (next, s.reading) → s.description ≡ r.description → LeavesMade before after s.made → new ≡ old ++ s.made
     → (Stands before r → IsAlone before after s.reading.client s.made → Stands after s)
     → (Stands before r → IsAlone before after s.reading.client s.made → AnswerShows after s next)
     → ReaderCalls before after old new r.description r.reading s.reading (AnswerShows after s next)
@@ -31,8 +31,8 @@ calls-next before after old new mode r s next says same left kept stands shows =
 }
 
 -- nothing
-pub calls-none : (told : EvdevView) (made : List CallMade) (d : Description) (r : Reading) (Shown : Type 0)
-    → Shown → ReaderCalls told told made made d r r Shown
+pub calls-none : (told : EvdevView) (made : List CallMade) (d : Description) (r : ReaderState)
+    (Shown : Type 0) → Shown → ReaderCalls told told made made d r r Shown
 calls-none told made d r Shown shown = record {
   more = [];
   kept = sym (append-nil made);
@@ -44,7 +44,7 @@ calls-none told made d r Shown shown = record {
 
 -- one call, and then another
 pub calls-then : (before between after : EvdevView) (old mid new : List CallMade) (d : Description)
-    (r s t : Reading) (Shown First : Type 0) → ReaderCalls before between old mid d r s First
+    (r s t : ReaderState) (Shown First : Type 0) → ReaderCalls before between old mid d r s First
     → ReaderCalls between after mid new d s t Shown → ReaderCalls before after old new d r t Shown
 calls-then before between after old mid new d r s t Shown First g h = record {
   more = g.more ++ h.more;
@@ -63,7 +63,7 @@ calls-then before between after old mid new d r s t Shown First g h = record {
     first alone = rw h.client at (alone-first before between after t.client g.more h.more h.left alone)
 
 -- what is shown says something else too
-pub calls-weaker : (before after : EvdevView) (old new : List CallMade) (d : Description) (r s : Reading)
+pub calls-weaker : (before after : EvdevView) (old new : List CallMade) (d : Description) (r s : ReaderState)
     (Shown Other : Type 0) → (Shown → Other) → ReaderCalls before after old new d r s Shown
     → ReaderCalls before after old new d r s Other
 calls-weaker before after old new d r s Shown Other other g = record {

@@ -24,7 +24,8 @@ use Rattle.inp_joy.specs.declared.joy_read.JoyRead.TheVariants.{Record}
 use Rattle.inp_joy.specs.declared.joy_record.JoyRecord.{JoyRecord}
 use Rattle.inp_joy.specs.JoyRecord.{bytes_of_record, record_in, within_16_bits, startup_button, startup_axis}
 use Rattle.inp_joy.specs.Codes.{buttons, axes, number_among}
-use Rattle.inp_joy.specs.Joy.{Joying, JoyAnswer, JoyTurn, gives, goes_on, hand_out_record, next_in_startup}
+use Rattle.inp_joy.specs.Joy.{JoystickState, JoyAnswer, JoyTurn, gives, goes_on, hand_out_record}
+use Rattle.inp_joy.specs.Joy.{next_in_startup}
 use Rattle.inp_joy.specs.Joy.{map_numbered, startup, last_value, record_of_key, record_of_axis, joy_record_of}
 use Rattle.inp_joy.specs.Joy.{record_or_on, joy_read_of, stop_or_on, joying_after_next, joying_after_sync}
 use Rattle.inp_joy.specs.Joy.{turns, with_reading, with_startup}
@@ -153,27 +154,27 @@ turn-same : (t u : JoyTurn) → t ≡ u → IsTurnAsSaid t → IsTurnAsSaid u
 turn-same t u e h = rw e at h
 
 -- the answers of a reader that end a read hand out no record
-stop-said : (j here : Joying) (next : Next) → IsTurnAsSaid (stop_or_on j here (joy_read_of next))
+stop-said : (j here : JoystickState) (next : Next) → IsTurnAsSaid (stop_or_on j here (joy_read_of next))
 stop-said j here (Success taken) = tt
 stop-said j here _ = tt
 
-sync_turn-said : (d : Description) (j : Joying) (calls : List Call) (t : JoyTurn) → Synchronises d j calls t
-    → IsTurnAsSaid t
+sync_turn-said : (d : Description) (j : JoystickState) (calls : List Call) (t : JoyTurn)
+    → Synchronises d j calls t → IsTurnAsSaid t
 sync_turn-said d j calls t s =
     turn-same (joying_after_sync j (s.next, s.reading)) t s.comes_to
     (stop-said (with_reading j s.reading) (with_startup s.reading) s.next)
 
-made-said : (j : Joying) (o : Option JoyRecord) → FitsIf o → IsTurnAsSaid (record_or_on j o)
+made-said : (j : JoystickState) (o : Option JoyRecord) → FitsIf o → IsTurnAsSaid (record_or_on j o)
 made-said j None h = tt
 made-said j (Some r) h = h
 
-next-said : (d : Description) (j : Joying) (next : Next) → IsTurnAsSaid (joying_after_next d j next)
+next-said : (d : Description) (j : JoystickState) (next : Next) → IsTurnAsSaid (joying_after_next d j next)
 next-said d j (Success taken) =
     cond_both (is_report taken.event) _ _ IsTurnAsSaid (λ _. tt)
     (λ _. made-said j (joy_record_of d j.picture taken) (event-fits d j.picture taken))
 next-said d j next = stop-said j j next
 
-turn-said : (d : Description) (j : Joying) (calls : List Call) (t : JoyTurn) → TurnCase d j calls t
+turn-said : (d : Description) (j : JoystickState) (calls : List Call) (t : JoyTurn) → TurnCase d j calls t
     → IsTurnAsSaid t
 turn-said d j calls t (of_startup r at none is) =
     turn-same (gives (hand_out_record (next_in_startup j) r)) t is
@@ -185,7 +186,7 @@ turn-said d j calls t (of_next next r plain h is) =
     turn-same (joying_after_next d (with_reading j r) next) t is (next-said d (with_reading j r) next)
 
 -- each answer of a read
-pub turns-said : (d : Description) (n count : ℕ) (j : Joying) (calls : List Call) (answer : JoyAnswer)
+pub turns-said : (d : Description) (n count : ℕ) (j : JoystickState) (calls : List Call) (answer : JoyAnswer)
     → EndsWith (turns d n count j) calls (Some answer) → IsAnswerAsSaid answer
 turns-said d n count j calls answer h =
     turns-all d (λ i cs a. IsAnswerAsSaid a)

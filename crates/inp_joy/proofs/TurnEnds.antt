@@ -18,7 +18,7 @@ use Rattle.inp_reader.specs.declared.next.Next.{Next}
 use Rattle.inp_reader.specs.declared.next.Next.TheVariants.{Success, Dropped, Sync, Synced}
 use Rattle.inp_reader.specs.declared.started.Started.{Started}
 use Rattle.inp_reader.specs.declared.started.Started.TheVariants.{Opened, Refused}
-use Rattle.inp_reader.specs.Reader.{Reading}
+use Rattle.inp_reader.specs.Reader.{ReaderState}
 use Rattle.inp_reader.specs.ReaderPlace.{is_needed}
 use Rattle.inp_reader.specs.Talk.{EndsWith}
 use Rattle.inp_reader.proofs.Calls.{AreAccepted}
@@ -29,7 +29,7 @@ use Rattle.inp_joy.specs.declared.turn_end.TurnEnd.{TurnEnd}
 use Rattle.inp_joy.specs.declared.turn_end.TurnEnd.TheVariants.{Hands, Stops, GoesOn}
 use Rattle.inp_joy.specs.Codes.{startup_len, buttons, axes}
 use Rattle.inp_joy.specs.JoyRecord.{startup_axis}
-use Rattle.inp_joy.specs.Joy.{Joying, JoyAnswer, JoyTurn, gives, goes_on, hand_out_record, stop_with}
+use Rattle.inp_joy.specs.Joy.{JoystickState, JoyAnswer, JoyTurn, gives, goes_on, hand_out_record, stop_with}
 use Rattle.inp_joy.specs.Joy.{with_reading, with_startup, without_startup, next_in_startup, is_startup_over}
 use Rattle.inp_joy.specs.Joy.{joying_after_start, startup, joy_read_of, joy_record_of, record_or_on}
 use Rattle.inp_joy.specs.Joy.{joying_after_event, stop_or_on, joying_after_next, joying_after_sync}
@@ -63,13 +63,14 @@ over-none d v handed none = elim (cases_lt handed (startup_len d)) [
     no_record = startup_axis 0 (pos 0)
 
 -- the test says what the comparison of the two numbers says
-pub startup_over : (d : Description) (j : Joying) → startup_len d ≤ j.handed → is_startup_over d j ≡ true
+pub startup_over : (d : Description) (j : JoystickState) → startup_len d ≤ j.handed
+    → is_startup_over d j ≡ true
 startup_over d j h = grind (arith, nat_tests, h)
 
 -- The picture after a turn
 
 -- at the end of a frame it shows the view
-abbrev pub FramePictured : Description → JoyRead → Joying → Type 0
+abbrev pub FramePictured : Description → JoyRead → JoystickState → Type 0
 FramePictured d (Frame place) j = j.picture ≡ picture_of_view d j.reading.view
 FramePictured d _ j = Unit {0}
 
@@ -81,19 +82,20 @@ turn-same : (d : Description) (t u : JoyTurn) → t ≡ u → IsTurnPictured d t
 turn-same d t u e h = rw e at h
 
 -- a picture that shows the view, with no record of a startup left
-pub shown-pictured : (d : Description) (j : Joying) → startup_len d ≤ j.handed
+pub shown-pictured : (d : Description) (j : JoystickState) → startup_len d ≤ j.handed
     → j.picture ≡ picture_of_view d j.reading.view → IsPictured d j
 shown-pictured d j over shown =
     λ plain. startup-gone j.picture (picture_of_view d j.reading.view) d j.reading.view j.handed over shown
 
-pub needed-pictured : (d : Description) (j : Joying) → is_needed j.reading.phase ≡ true → IsPictured d j
+pub needed-pictured : (d : Description) (j : JoystickState) → is_needed j.reading.phase ≡ true
+    → IsPictured d j
 needed-pictured d j needed = λ plain. absurd (true≢false (sym needed ∙ plain))
 
-pub begun-pictured : (d : Description) (r : Reading) → IsPictured d (with_startup r)
+pub begun-pictured : (d : Description) (r : ReaderState) → IsPictured d (with_startup r)
 begun-pictured d r = λ plain. startup-pictured d r.view
 
 -- a record of the startup
-pub record-pictured : (d : Description) (j : Joying) (r : JoyRecord)
+pub record-pictured : (d : Description) (j : JoystickState) (r : JoyRecord)
     → slice_get (startup d j.reading.view) j.handed ≡ Some r → IsPictured d j
     → IsPictured d (hand_out_record (next_in_startup j) r).joying
 record-pictured d j r at h =
@@ -101,7 +103,7 @@ record-pictured d j r at h =
     (startup d j.reading.view) j.handed r at (h plain)
 
 -- a synchronisation
-sync-pictured : (d : Description) (j : Joying) (next : Next) (r : Reading) → IsSynced next r
+sync-pictured : (d : Description) (j : JoystickState) (next : Next) (r : ReaderState) → IsSynced next r
     → IsTurnPictured d (joying_after_sync j (next, r))
 sync-pictured d j (Success taken) r h = absurd h
 sync-pictured d j (Dropped taken) r h = absurd h
@@ -109,7 +111,7 @@ sync-pictured d j (Sync event) r h = begun-pictured d r
 sync-pictured d j Synced r h = begun-pictured d r
 sync-pictured d j _ r h = (needed-pictured d (with_reading j r) h, tt)
 
-sync_turn-pictured : (d : Description) (j : Joying) (calls : List Call) (t : JoyTurn)
+sync_turn-pictured : (d : Description) (j : JoystickState) (calls : List Call) (t : JoyTurn)
     → is_needed j.reading.phase ≡ true → Synchronises d j calls t → IsTurnPictured d t
 sync_turn-pictured d j calls t needed s =
     turn-same d (joying_after_sync j (s.next, s.reading)) t s.comes_to
@@ -117,12 +119,12 @@ sync_turn-pictured d j calls t needed s =
     (next-synced d j.reading calls (s.next, s.reading) needed s.talk_ends))
 
 -- an event
-event-gives : (d : Description) (j : Joying) (o : Option JoyRecord) → startup_len d ≤ j.handed
+event-gives : (d : Description) (j : JoystickState) (o : Option JoyRecord) → startup_len d ≤ j.handed
     → picture_after_if j.picture o ≡ picture_of_view d j.reading.view → IsTurnPictured d (record_or_on j o)
 event-gives d j None over shown = shown-pictured d j over shown
 event-gives d j (Some r) over shown = (shown-pictured d (hand_out_record j r).joying over shown, tt)
 
-taken-pictured : (d : Description) (j : Joying) (view : View) (taken : Taken) → IsSizedFor d.slots view
+taken-pictured : (d : Description) (j : JoystickState) (view : View) (taken : Taken) → IsSizedFor d.slots view
     → startup_len d ≤ j.handed → j.picture ≡ picture_of_view d view
     → j.reading.view ≡ view_after_event view taken.event → IsTurnPictured d (joying_after_event d j taken)
 taken-pictured d j view taken sized over shown moved = by_flag (is_report taken.event) refl
@@ -138,11 +140,12 @@ taken-pictured d j view taken sized over shown moved = by_flag (is_report taken.
         (shown-pictured d j over still, still)
     by_flag false is = event-gives d j (joy_record_of d j.picture taken) over all
 
-stopped-pictured : (d : Description) (j : Joying) (r : Reading) → startup_len d ≤ j.handed
+stopped-pictured : (d : Description) (j : JoystickState) (r : ReaderState) → startup_len d ≤ j.handed
     → j.picture ≡ picture_of_view d j.reading.view → r.view ≡ j.reading.view → IsPictured d (with_reading j r)
 stopped-pictured d j r over shown same = shown-pictured d (with_reading j r) over (rw (shown, ← same))
 
-next-pictured : (d : Description) (j : Joying) (next : Next) (r : Reading) → IsSizedFor d.slots j.reading.view
+next-pictured : (d : Description) (j : JoystickState) (next : Next) (r : ReaderState)
+    → IsSizedFor d.slots j.reading.view
     → startup_len d ≤ j.handed → j.picture ≡ picture_of_view d j.reading.view → IsTaken j.reading.view next r
     → IsTurnPictured d (joying_after_next d (with_reading j r) next)
 next-pictured d j (Success taken) r sized over shown h =
@@ -153,7 +156,7 @@ next-pictured d j Synced r sized over shown h = absurd h
 next-pictured d j _ r sized over shown h = (stopped-pictured d j r over shown h.0, tt)
 
 -- any turn
-pub turn-pictured : (d : Description) (j : Joying) (calls : List Call) (t : JoyTurn)
+pub turn-pictured : (d : Description) (j : JoystickState) (calls : List Call) (t : JoyTurn)
     → IsSizedFor d.slots j.reading.view → IsPictured d j
     → None ≡ slice_get (startup d j.reading.view) j.handed → EndsWith (record_or_turn d j None) calls t
     → IsTurnPictured d t
@@ -174,21 +177,21 @@ turn-pictured d j calls t sized pictured none h = by (case-of d j None calls t (
         (pictured plain)) (next-taken d j.reading calls (next, r) plain ends))
 
 -- as an outcome
-pub outcome-pictured : (d : Description) (k : Joying) (outcome : TurnEnd)
+pub outcome-pictured : (d : Description) (k : JoystickState) (outcome : TurnEnd)
     → IsTurnPictured d (turn_of_end outcome k) → IsPictured d k
 outcome-pictured d k (Hands r) h = h.0
 outcome-pictured d k (Stops read) h = h.0
 outcome-pictured d k GoesOn h = h
 
 -- what is known of a turn that ends a frame says so
-pub frame-pictured : (d : Description) (k : Joying) (place : ℕ)
+pub frame-pictured : (d : Description) (k : JoystickState) (place : ℕ)
     → IsTurnPictured d (turn_of_end (Stops (Frame place)) k) → k.picture ≡ picture_of_view d k.reading.view
 frame-pictured d k place h = h.1
 
 -- A start
 
 -- an open begins a startup; a refusal changes nothing or leaves a synchronisation needed
-pub start-pictured : (d : Description) (j l : Joying) (r : Reading) (started : Started)
+pub start-pictured : (d : Description) (j l : JoystickState) (r : ReaderState) (started : Started)
     → IsLeftByStart j.reading started r → l ≡ joying_after_start d (with_reading j r) started → IsPictured d j
     → IsPictured d l
 start-pictured d j l r (Opened client ring) left is h = rw is (begun-pictured d r)
@@ -202,27 +205,27 @@ start-pictured d j l r (Refused at why) left is h = rw is (by_flag (is_needed r.
 
 -- Where a turn goes on all its calls were accepted
 
-gives-goes : (answer : JoyAnswer) (k : Joying) → gives answer ≡ goes_on k → ⊥
+gives-goes : (answer : JoyAnswer) (k : JoystickState) → gives answer ≡ goes_on k → ⊥
 gives-goes answer k e = cc
 
-stop-none : (j here k : Joying) (o : Option JoyRead) → stop_or_on j here o ≡ goes_on k → o ≡ None
+stop-none : (j here k : JoystickState) (o : Option JoyRead) → stop_or_on j here o ≡ goes_on k → o ≡ None
 stop-none j here k None h = refl
 stop-none j here k (Some read) h = absurd (gives-goes (stop_with read j) k h)
 
-sync_turn-accepted : (d : Description) (j k : Joying) (calls : List Call) → Synchronises d j calls (goes_on k)
-    → AreAccepted calls
+sync_turn-accepted : (d : Description) (j k : JoystickState) (calls : List Call)
+    → Synchronises d j calls (goes_on k) → AreAccepted calls
 sync_turn-accepted d j k calls s =
     next-accepted d Synchronising j.reading calls (s.next, s.reading)
     (stop-none (with_reading j s.reading) (with_startup s.reading) k
     (joy_read_of s.next) s.comes_to) s.talk_ends
 
-next-none : (d : Description) (j k : Joying) (next : Next) → joying_after_next d j next ≡ goes_on k
+next-none : (d : Description) (j k : JoystickState) (next : Next) → joying_after_next d j next ≡ goes_on k
     → joy_read_of next ≡ None
 next-none d j k (Success taken) h = refl
 next-none d j k next h = stop-none j j k (joy_read_of next) h
 
 -- a call that is not accepted stops a turn, so one that goes on has none
-pub turn-accepted : (d : Description) (j k : Joying) (calls : List Call)
+pub turn-accepted : (d : Description) (j k : JoystickState) (calls : List Call)
     → EndsWith (turn_talk d j) calls (goes_on k) → AreAccepted calls
 turn-accepted d j k calls h = by (turn-case d j calls (goes_on k) h)
   where

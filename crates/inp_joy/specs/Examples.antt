@@ -9,22 +9,22 @@ use Rattle.inp_model.specs.Description.{Description, no_info}
 use Rattle.inp_model.specs.examples.Frames.{report}
 use Rattle.inp_reader.specs.declared.call_made.CallMade.{CallMade}
 use Rattle.inp_reader.specs.Examples.{played, new_reading, slider, slides, axis}
-use Rattle.inp_reader.specs.Says.{calls_kept}
+use Rattle.inp_reader.specs.FollowsTalk.{calls_kept}
 use Rattle.inp_joy.specs.declared.joy_read.JoyRead.{JoyRead}
 use Rattle.inp_joy.specs.declared.joy_read.JoyRead.TheVariants.{Record, Frame, Again, More}
 use Rattle.inp_joy.specs.Codes.{startup_len}
-use Rattle.inp_joy.specs.Joy.{Joying, joy_start, turns, stop_with}
+use Rattle.inp_joy.specs.Joy.{JoystickState, joy_start, turns, stop_with}
 use Rattle.inp_joy.specs.Picture.{blank_picture, up_to_64}
 use Rattle.inp_joy.specs.Reads.{bytes_after}
 
 -- a joystick client on a one-thread device: its answers with the bytes that it handed out, and the calls that it made
 pub record JoyStand : Type 0 where
   pub past : List Step
-  pub joying : Joying
+  pub joying : JoystickState
   pub answers : List (JoyRead × List ℕ)
   pub made : List CallMade
 
-abbrev pub new_joying : Description → Joying
+abbrev pub new_joying : Description → JoystickState
 new_joying d = record { reading = new_reading d; handed = startup_len d; picture = blank_picture }
 
 -- a new client starts after these steps
@@ -34,7 +34,7 @@ started_joy d steps =
     record { past = p.past; joying = p.result.1; answers = []; made = calls_kept p.calls }
 
 -- so many reads, of at most four turns each
-abbrev pub after_reads : Description → List Step → Joying → ℕ → List (JoyRead × List ℕ) → List CallMade → JoyStand
+abbrev pub after_reads : Description → List Step → JoystickState → ℕ → List (JoyRead × List ℕ) → List CallMade → JoyStand
 after_reads d past j zero answers made = record { past = past; joying = j; answers = answers; made = made }
 after_reads d past j (suc n) answers made =
     let p = played d past (turns d 4 0 j) in

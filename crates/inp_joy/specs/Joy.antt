@@ -13,7 +13,7 @@ use Rattle.inp_reader.specs.declared.next.Next.{Next}
 use Rattle.inp_reader.specs.declared.next.Next.TheVariants.{Success, Dropped, Again as NothingVisible, NoDevice as Revoked, Closed as NotOpen, Full as FullHistory}
 use Rattle.inp_reader.specs.declared.started.Started.{Started}
 use Rattle.inp_reader.specs.declared.started.Started.TheVariants.{Opened, Refused}
-use Rattle.inp_reader.specs.Reader.{Reading, start_talk, next_talk}
+use Rattle.inp_reader.specs.Reader.{ReaderState, start_talk, next_talk}
 use Rattle.inp_reader.specs.ReaderPlace.{is_needed}
 use Rattle.inp_reader.specs.Talk.{Talk, finish, ask, and_then}
 use Rattle.inp_joy.specs.declared.joy_read.JoyRead.{JoyRead}
@@ -23,8 +23,8 @@ use Rattle.inp_joy.specs.JoyRecord.{within_16_bits, startup_button, startup_axis
 use Rattle.inp_joy.specs.Codes.{buttons, axes, number_among, startup_len}
 use Rattle.inp_joy.specs.Picture.{PictureView, blank_picture, picture_after, is_down_in, value_in}
 
-pub record Joying : Type 0 where
-  pub reading : Reading
+pub record JoystickState : Type 0 where
+  pub reading : ReaderState
   -- how many records of the startup were handed out
   pub handed : ℕ
   -- what the records since that startup began make of a blank picture
@@ -34,7 +34,7 @@ pub record Joying : Type 0 where
 pub record JoyView : Type 0 where
   -- the description of the devices that it reads
   pub description : Description
-  pub joying : Joying
+  pub joying : JoystickState
   -- the calls of the last `start` or `read`, those answered Again left out
   pub made : List CallMade
 
@@ -56,32 +56,32 @@ startup_axes d v = map_numbered startup_axis 0 (map (λ code. within_16_bits (va
 unfoldable pub startup : Description → View → List JoyRecord
 startup d v = startup_buttons d v ++ startup_axes d v
 
-abbrev pub with_reading : Joying → Reading → Joying
+abbrev pub with_reading : JoystickState → ReaderState → JoystickState
 with_reading j r = record j { reading = r }
 
 -- a startup begins
-abbrev pub with_startup : Reading → Joying
+abbrev pub with_startup : ReaderState → JoystickState
 with_startup r = record { reading = r; handed = 0; picture = blank_picture }
 
 -- no startup record is left
-abbrev pub without_startup : Description → Joying → Joying
+abbrev pub without_startup : Description → JoystickState → JoystickState
 without_startup d j = record j { handed = startup_len d }
 
-abbrev pub is_startup_over : Description → Joying → Bool
+abbrev pub is_startup_over : Description → JoystickState → Bool
 is_startup_over d j = nat_le (startup_len d) j.handed
 
 -- Starting
 
 -- a startup begins where a client was opened; where its queries were refused in part no record is left
-abbrev pub joying_after_start : Description → Joying → Started → Joying
+abbrev pub joying_after_start : Description → JoystickState → Started → JoystickState
 joying_after_start d j (Opened client ring) = with_startup j.reading
 joying_after_start d j (Refused at why) = if is_needed j.reading.phase then without_startup d j else j
 
-abbrev pub joy_started : Description → Joying → Started × Reading → Started × Joying
+abbrev pub joy_started : Description → JoystickState → Started × ReaderState → Started × JoystickState
 joy_started d j o = (o.0, joying_after_start d (with_reading j o.1) o.0)
 
 -- its reader starts
-unfoldable pub joy_start : Description → Joying → Talk (Started × Joying)
+unfoldable pub joy_start : Description → JoystickState → Talk (Started × JoystickState)
 joy_start d j = and_then (start_talk d j.reading) (λ o. finish (joy_started d j o))
 
 -- Reading
@@ -90,17 +90,17 @@ joy_start d j = and_then (start_talk d j.reading) (λ o. finish (joy_started d j
 pub record JoyAnswer : Type 0 where
   pub read : JoyRead
   pub record_out : Option JoyRecord
-  pub joying : Joying
+  pub joying : JoystickState
 
 -- a turn gives an answer, or the read goes on
 pub data JoyTurn : Type 0 where
   gives : JoyAnswer → JoyTurn
-  goes_on : Joying → JoyTurn
+  goes_on : JoystickState → JoyTurn
 
-abbrev pub hand_out_record : Joying → JoyRecord → JoyAnswer
+abbrev pub hand_out_record : JoystickState → JoyRecord → JoyAnswer
 hand_out_record j r = record { read = Record; record_out = Some r; joying = record j { picture = picture_after j.picture r } }
 
-abbrev pub stop_with : JoyRead → Joying → JoyAnswer
+abbrev pub stop_with : JoyRead → JoystickState → JoyAnswer
 stop_with read j = record { read = read; record_out = None; joying = j }
 
 -- the answers of a reader that are answers of a read too
@@ -133,45 +133,45 @@ joy_record_of d p taken =
     else None
 
 -- the record that is there is handed out
-abbrev pub record_or_on : Joying → Option JoyRecord → JoyTurn
+abbrev pub record_or_on : JoystickState → Option JoyRecord → JoyTurn
 record_or_on j None = goes_on j
 record_or_on j (Some r) = gives (hand_out_record j r)
 
 -- after an event of the reader: a report ends a frame, and others may give a record
-abbrev pub joying_after_event : Description → Joying → Taken → JoyTurn
+abbrev pub joying_after_event : Description → JoystickState → Taken → JoyTurn
 joying_after_event d j taken =
     if is_report taken.event then gives (stop_with (Frame taken.place) j)
     else record_or_on j (joy_record_of d j.picture taken)
 
 -- the reader's answer is given where it is one of a read too, and else the read goes on from here
-abbrev pub stop_or_on : Joying → Joying → Option JoyRead → JoyTurn
+abbrev pub stop_or_on : JoystickState → JoystickState → Option JoyRead → JoyTurn
 stop_or_on j here None = goes_on here
 stop_or_on j here (Some read) = gives (stop_with read j)
 
 -- after an answer of the reader that lost no events
-abbrev pub joying_after_next : Description → Joying → Next → JoyTurn
+abbrev pub joying_after_next : Description → JoystickState → Next → JoyTurn
 joying_after_next d j (Success taken) = joying_after_event d j taken
 joying_after_next d j next = stop_or_on j j (joy_read_of next)
 
 -- after a synchronisation: a startup begins, unless it was stopped
-abbrev pub joying_after_sync : Joying → Next × Reading → JoyTurn
+abbrev pub joying_after_sync : JoystickState → Next × ReaderState → JoyTurn
 joying_after_sync j o = stop_or_on (with_reading j o.1) (with_startup o.1) (joy_read_of o.0)
 
 -- the reader synchronises
-unfoldable pub sync_turn : Description → Joying → Talk JoyTurn
+unfoldable pub sync_turn : Description → JoystickState → Talk JoyTurn
 sync_turn d j = and_then (next_talk d Synchronising j.reading) (λ o. finish (joying_after_sync j o))
 
 -- after an answer of the reader in Normal mode: where events were lost it synchronises
-abbrev pub after_normal : Description → Joying → Next × Reading → Talk JoyTurn
+abbrev pub after_normal : Description → JoystickState → Next × ReaderState → Talk JoyTurn
 after_normal d j (Dropped taken, r) = sync_turn d (with_reading j r)
 after_normal d j (next, r) = finish (joying_after_next d (with_reading j r) next)
 
 -- the reader is asked for its next event
-unfoldable pub event_turn : Description → Joying → Talk JoyTurn
+unfoldable pub event_turn : Description → JoystickState → Talk JoyTurn
 event_turn d j = and_then (next_talk d Normal j.reading) (after_normal d j)
 
 -- one record of the startup more was handed out
-abbrev pub next_in_startup : Joying → Joying
+abbrev pub next_in_startup : JoystickState → JoystickState
 next_in_startup j = record j { handed = j.handed + 1 }
 
 -- what a turn does, by what there is (docs/RULES.md, "Joystick clients"):
@@ -185,11 +185,11 @@ next_in_startup j = record j { handed = j.handed + 1 }
 --   lost events                    synchronises, and a startup begins
 --   a stop of the reader           gives it as the read's answer
 --   another event                  goes on
-abbrev pub record_or_turn : Description → Joying → Option JoyRecord → Talk JoyTurn
+abbrev pub record_or_turn : Description → JoystickState → Option JoyRecord → Talk JoyTurn
 record_or_turn d j None = if is_needed j.reading.phase then sync_turn d j else event_turn d j
 record_or_turn d j (Some r) = finish (gives (hand_out_record (next_in_startup j) r))
 
-abbrev pub turn_talk : Description → Joying → Talk JoyTurn
+abbrev pub turn_talk : Description → JoystickState → Talk JoyTurn
 turn_talk d j = record_or_turn d j (slice_get (startup d j.reading.view) j.handed)
 
 -- a talk, with how many of its steps were accepted after so many before
@@ -198,14 +198,14 @@ with_count (finish a) n = finish (n, a)
 with_count (ask x rest) n = ask x (λ answer. with_count (rest answer) (if is_accepted answer.reply then n + 1 else n))
 
 -- a read is over for now: no startup record is left, and 64 of its steps were accepted
-abbrev pub is_long : Description → Joying → ℕ → Bool
+abbrev pub is_long : Description → JoystickState → ℕ → Bool
 is_long d j n = is_startup_over d j && nat_le 64 n
 
-abbrev pub after_turn : Description → (ℕ → Joying → Talk (Option JoyAnswer)) → ℕ → JoyTurn → Talk (Option JoyAnswer)
+abbrev pub after_turn : Description → (ℕ → JoystickState → Talk (Option JoyAnswer)) → ℕ → JoyTurn → Talk (Option JoyAnswer)
 after_turn d go_on n (gives answer) = finish (Some answer)
 after_turn d go_on n (goes_on j) = if is_long d j n then finish (Some (stop_with More j)) else go_on n j
 
 -- turns until one gives an answer or the read is long, at most so many
-unfoldable pub turns : Description → ℕ → ℕ → Joying → Talk (Option JoyAnswer)
+unfoldable pub turns : Description → ℕ → ℕ → JoystickState → Talk (Option JoyAnswer)
 turns d zero n j = finish None
 turns d (suc k) n j = and_then (with_count (turn_talk d j) n) (λ o. after_turn d (turns d k) o.0 o.1)

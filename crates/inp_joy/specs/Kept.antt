@@ -6,8 +6,8 @@ use Rattle.inp_model.specs.Evdev.{EvdevView}
 use Rattle.inp_reader.specs.declared.call_made.CallMade.{CallMade}
 use Rattle.inp_reader.specs.KeptViews.{IsKeptView}
 use Rattle.inp_reader.specs.LeftEvdev.{LeavesMade}
-use Rattle.inp_reader.specs.Reader.{Reading, ReaderView}
-use Rattle.inp_reader.specs.Says.{Says}
+use Rattle.inp_reader.specs.Reader.{ReaderState, ReaderView}
+use Rattle.inp_reader.specs.FollowsTalk.{FollowsTalk}
 use Rattle.inp_reader.specs.TrueView.{ShowsTheDevice}
 use Rattle.inp_reader.specs.ReaderPlace.{StandsAt, IsAlone}
 use Rattle.inp_joy.specs.declared.joy.Joy.TheInside.{Inside}
@@ -16,11 +16,11 @@ use Rattle.inp_joy.specs.declared.joy_state.JoyState.{JoyState}
 use Rattle.inp_joy.specs.declared.turn_end.TurnEnd.{TurnEnd}
 use Rattle.inp_joy.specs.declared.turn_end.TurnEnd.TheVariants.{Hands, Stops, GoesOn}
 use Rattle.inp_joy.specs.Codes.{buttons, axes, startup_len}
-use Rattle.inp_joy.specs.Joy.{Joying, JoyView, JoyAnswer, JoyTurn, gives, goes_on, stop_with, is_long, turns}
+use Rattle.inp_joy.specs.Joy.{JoystickState, JoyView, JoyAnswer, JoyTurn, gives, goes_on, stop_with, is_long, turns}
 use Rattle.inp_joy.specs.Picture.{seen_as}
 use Rattle.inp_joy.specs.Reads.{IsPictured, PicturesTheDevice, IsReadLess, agains_after_read}
 
-abbrev pub kept_joying : JoyState → Joying
+abbrev pub kept_joying : JoyState → JoystickState
 kept_joying s = record { reading = s.reader.reading; handed = s.handed; picture = seen_as s.picture }
 
 -- what a joystick client keeps for devices of a description
@@ -41,18 +41,18 @@ pub record IsJoy (j : Inside) : Type 0 where
   pub pictured : IsPictured j.state.reader.description (kept_joying j.state)
 
 -- the answer that a turn comes to; where it goes on, the read is over for now
-abbrev pub answer_of_turn : TurnEnd → Joying → JoyAnswer
+abbrev pub answer_of_turn : TurnEnd → JoystickState → JoyAnswer
 answer_of_turn (Hands r) j = record { read = Record; record_out = Some r; joying = j }
 answer_of_turn (Stops read) j = stop_with read j
 answer_of_turn GoesOn j = stop_with More j
 
-abbrev pub turn_of_end : TurnEnd → Joying → JoyTurn
+abbrev pub turn_of_end : TurnEnd → JoystickState → JoyTurn
 turn_of_end (Hands r) j = gives (answer_of_turn (Hands r) j)
 turn_of_end (Stops read) j = gives (answer_of_turn (Stops read) j)
 turn_of_end GoesOn j = goes_on j
 
 -- no other turn follows
-abbrev pub is_end : Description → TurnEnd → Joying → ℕ → Bool
+abbrev pub is_end : Description → TurnEnd → JoystickState → ℕ → Bool
 is_end d GoesOn j n = is_long d j n
 is_end d _ j n = true
 
@@ -69,7 +69,7 @@ agains_after_turn _ n = n
 
 -- What a reader did: the calls that it made, what they leave, and that it stands afterwards, and shows this,
 -- where it stood before and nobody else used its client.
-pub record ReaderCalls (before after : EvdevView) (old new : List CallMade) (d : Description) (r s : Reading) (Shown : Type 0) : Type 0 where
+pub record ReaderCalls (before after : EvdevView) (old new : List CallMade) (d : Description) (r s : ReaderState) (Shown : Type 0) : Type 0 where
   pub more : List CallMade
   pub kept : new ≡ old ++ more
   pub left : LeavesMade before after more
@@ -78,7 +78,7 @@ pub record ReaderCalls (before after : EvdevView) (old new : List CallMade) (d :
   pub shows : StandsAt d (reverse before.seen) r → IsAlone before after s.client more → Shown
 
 -- what a turn shows where a frame ended
-abbrev pub TurnEndPictures : EvdevView → Description → Joying → TurnEnd → Type 0
+abbrev pub TurnEndPictures : EvdevView → Description → JoystickState → TurnEnd → Type 0
 TurnEndPictures told d j (Stops (Frame place)) = PicturesTheDevice d (reverse told.seen) j place
 TurnEndPictures told d j _ = Unit {0}
 
@@ -88,9 +88,9 @@ TurnEndShows told r (Stops (Frame place)) = (taken : Taken) × (taken.place ≡ 
 TurnEndShows told r _ = Unit {0}
 
 -- the calls that were made are those of some number of turns, and this is their answer
-pub record HasTurned (before after : EvdevView) (d : Description) (old : Joying) (made : List CallMade) (answer : JoyAnswer) : Type 0 where
+pub record HasTurned (before after : EvdevView) (d : Description) (old : JoystickState) (made : List CallMade) (answer : JoyAnswer) : Type 0 where
   pub count : ℕ
-  pub says : Says before after [] made (turns d count 0 old) (Some answer)
+  pub says : FollowsTalk before after [] made (turns d count 0 old) (Some answer)
 
 -- the reader stands at the end of the history that is seen
 abbrev pub StateStands : EvdevView → JoyState → Type 0

@@ -4,7 +4,7 @@ ghost use Rattle.inp_reader.specs.declared.phase.Phase.TheVariants.{Plain};
 ghost use Rattle.inp_reader.specs.declared.reader.TheConstants.{NO_CLIENT};
 ghost use Rattle.inp_reader.specs.Effort.{effort};
 ghost use Rattle.inp_reader.specs.LeftEvdev.{LeavesMade};
-ghost use Rattle.inp_reader.specs.Says.{Says};
+ghost use Rattle.inp_reader.specs.FollowsTalk.{FollowsTalk};
 ghost use Rattle.inp_reader.specs.ReaderPlace.{IsAlone, has_opened};
 ghost use Rattle.inp_recon.specs.View.{first_view};
 ghost use Rattle.inp_joy.specs.Codes.{startup_len};
@@ -30,7 +30,8 @@ use std::marker::Model;
 /// again.
 ///
 /// Each call is lent the device, which must be of the description that the client was made for. A contract sees a
-/// joystick client as its description, what it keeps (`Joying` of `specs/Joy.antt`), and the calls that it made last.
+/// joystick client as its description, what it keeps (`JoystickState` of `specs/Joy.antt`), and the calls that it made
+/// last.
 #[derive(Drop)]
 pub struct Joy {
     state: JoyState,
@@ -91,7 +92,7 @@ impl Joy {
     /// reader's start.
     pub fn start<E: Evdev>(&mut self, dev: &mut E) -> Started
         requires description { (E.told dev.old).description ≡ self.old.description }
-        ensures says { Says (E.told dev.old) (E.told dev.new) [] self.new.made
+        ensures says { FollowsTalk (E.told dev.old) (E.told dev.new) [] self.new.made
             (joy_start self.old.description self.old.joying) (result, self.new.joying) }
         ensures joy { self.new.description ≡ self.old.description }
         ensures left { LeavesMade (E.told dev.old) (E.told dev.new) self.new.made }

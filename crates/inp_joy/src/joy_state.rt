@@ -4,7 +4,7 @@ ghost use Rattle.std.specs.Ordering.{int_eq};
 ghost use Rattle.inp_reader.specs.Effort.{effort, IsLess, is_idle};
 ghost use Rattle.inp_reader.specs.LeftEvdev.{LeavesMade, agains_after_next};
 ghost use Rattle.inp_reader.specs.Reader.{next_talk};
-ghost use Rattle.inp_reader.specs.Says.{Says};
+ghost use Rattle.inp_reader.specs.FollowsTalk.{FollowsTalk};
 ghost use Rattle.inp_reader.specs.TrueView.{AnswerShows};
 ghost use Rattle.inp_reader.specs.ReaderPlace.{IsAlone, is_needed, has_opened};
 ghost use Rattle.inp_joy.specs.Codes.{number_among, startup_len};
@@ -211,7 +211,7 @@ impl JoyState {
         requires description { (E.told dev.old).description ≡ self.old.reader.description }
         requires state { IsJoyState self.old.reader.description self.old }
         requires few { length self.old.made + 55 ≤ 128 }
-        ensures says { Says (E.told dev.old) (E.told dev.new) self.old.made self.new.made
+        ensures says { FollowsTalk (E.told dev.old) (E.told dev.new) self.old.made self.new.made
             (next_talk self.old.reader.description mode self.old.reader.reading)
             (result, self.new.reader.reading) }
         ensures calls { ReaderCalls (E.told dev.old) (E.told dev.new) self.old.made self.new.made
@@ -239,7 +239,7 @@ impl JoyState {
         requires state { IsJoyState self.old.reader.description self.old }
         requires needed { is_needed self.old.reader.reading.phase ≡ true }
         requires few { length self.old.made + 55 ≤ 128 }
-        ensures says { Says (E.told dev.old) (E.told dev.new) self.old.made self.new.made
+        ensures says { FollowsTalk (E.told dev.old) (E.told dev.new) self.old.made self.new.made
             (sync_turn self.old.reader.description (kept_joying self.old))
             (turn_of_end result (kept_joying self.new)) }
         ensures calls { ReaderCalls (E.told dev.old) (E.told dev.new) self.old.made self.new.made
@@ -266,7 +266,7 @@ impl JoyState {
         requires state { IsJoyState self.old.reader.description self.old }
         requires plain { is_needed self.old.reader.reading.phase ≡ false }
         requires few { length self.old.made < 64 }
-        ensures says { Says (E.told dev.old) (E.told dev.new) self.old.made self.new.made
+        ensures says { FollowsTalk (E.told dev.old) (E.told dev.new) self.old.made self.new.made
             (event_turn self.old.reader.description (kept_joying self.old))
             (turn_of_end result (kept_joying self.new)) }
         ensures calls { ReaderCalls (E.told dev.old) (E.told dev.new) self.old.made self.new.made
@@ -308,7 +308,7 @@ impl JoyState {
         requires description { (E.told dev.old).description ≡ self.old.reader.description }
         requires state { IsJoyState self.old.reader.description self.old }
         requires few { length self.old.made < 64 }
-        ensures says { Says (E.told dev.old) (E.told dev.new) self.old.made self.new.made
+        ensures says { FollowsTalk (E.told dev.old) (E.told dev.new) self.old.made self.new.made
             (record_or_turn self.old.reader.description (kept_joying self.old) None)
             (turn_of_end result (kept_joying self.new)) }
         ensures calls { ReaderCalls (E.told dev.old) (E.told dev.new) self.old.made self.new.made
@@ -336,7 +336,7 @@ impl JoyState {
         requires short { is_startup_over self.old.reader.description (kept_joying self.old) ≡ true
             → length self.old.made < 64 }
         requires few { length self.old.made ≤ 128 }
-        ensures says { Says (E.told dev.old) (E.told dev.new) self.old.made self.new.made
+        ensures says { FollowsTalk (E.told dev.old) (E.told dev.new) self.old.made self.new.made
             (turn_talk self.old.reader.description (kept_joying self.old))
             (turn_of_end result (kept_joying self.new)) }
         ensures calls { ReaderCalls (E.told dev.old) (E.told dev.new) self.old.made self.new.made
@@ -460,7 +460,7 @@ impl JoyState {
         requires description { (E.told dev.old).description ≡ self.old.reader.description }
         requires state { IsJoyState self.old.reader.description self.old }
         requires pictured { IsPictured self.old.reader.description (kept_joying self.old) }
-        ensures says { Says (E.told dev.old) (E.told dev.new) [] self.new.made
+        ensures says { FollowsTalk (E.told dev.old) (E.told dev.new) [] self.new.made
             (joy_start self.old.reader.description (kept_joying self.old))
             (result, kept_joying self.new) }
         ensures left { LeavesMade (E.told dev.old) (E.told dev.new) self.new.made }

@@ -9,11 +9,11 @@
 //! Its contract: `specs/Joy.antt` says what `start` and `read` ask of an evdev, one step by the answers before it. It
 //! also says what they answer, hand out and keep (a `Talk` of `inp_reader`). [`Joy::start`] and [`Joy::read`] promise
 //! that the calls they made are those of that talk, of `read` in some number of turns. The answer, the record and what
-//! is kept are its result (`Says`, `IsJoyRead`). Without a record the caller's bytes stay. A `read` ends. The count of
-//! answers Again rises at `Again` alone. What the calls leave of the history is said as [`Reader`](inp_reader::Reader)
-//! says it (`LeavesMade`), and so is where the client stands. [`laws::pictures`] states what a startup, an event and a
-//! view that is the device's make of pictures. [`examples`] shows what two short histories, a loss among them, hand out
-//! byte by byte.
+//! is kept are its result (`FollowsTalk`, `IsJoyRead`). Without a record the caller's bytes stay. A `read` ends. The
+//! count of answers Again rises at `Again` alone. What the calls leave of the history is said as
+//! [`Reader`](inp_reader::Reader) says it (`LeavesMade`), and so is where the client stands. [`laws::pictures`] states
+//! what a startup, an event and a view that is the device's make of pictures. [`examples`] shows what two short
+//! histories, a loss among them, hand out byte by byte.
 //!
 //! The picture is what the records since the last startup make of a blank one (`specs/Picture.antt`). What is left of a
 //! startup leads it to the buttons and cut axes of the reader's view, and after the startup it shows them. This is an

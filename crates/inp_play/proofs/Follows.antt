@@ -4,10 +4,10 @@ use Rattle.std.proofs.Common.{◌∷◌, length, refl, sym, ap, ◌∙◌, arith
 use Rattle.std.specs.Prelude.{Result, Ok, Err}
 use Rattle.std.proofs.lemmas.Bool.{cond_both}
 use Rattle.inp_script.specs.Client.{hand_talk}
-use Rattle.inp_script.proofs.Common.{Taken, Step, Reply, View, Mode, Phase, Next, Reading}
+use Rattle.inp_script.proofs.Common.{Taken, Step, Reply, View, Mode, Phase, Next, ReaderState}
 use Rattle.inp_script.proofs.Common.{start_talk, next_talk, stop_of, lacks_memory, Description, Answer}
 use Rattle.inp_script.proofs.Common.{answer, past_after, is_accepted, Job, call_if, tap_call_if, Event, Plain}
-use Rattle.inp_script.proofs.Common.{Talk, finish, ask, talk_with, Going, turn_after, after_next}
+use Rattle.inp_script.proofs.Common.{Talk, finish, ask, talk_with, LineProgress, turn_after, after_next}
 use Rattle.inp_script.proofs.Common.{mode_of, next_round, start_job, start_joystick}
 use Rattle.inp_script.specs.declared.sight.Sight.{Sight}
 use Rattle.inp_model.specs.declared.step.Step.TheVariants.{Open, Read, Discard}
@@ -120,18 +120,18 @@ pub record IsAhead (d : Description) (most : ℕ) (past : List Step) (client k :
   pub within : reads + suc most ≤ k
 
 -- no step at all
-pub record IsSpent (d : Description) (past : List Step) (r : Reading) : Type 0 where
+pub record IsSpent (d : Description) (past : List Step) (r : ReaderState) : Type 0 where
   -- the reader has no event at hand
   pub empty : r.queue ≡ []
   pub unneeded : is_needed r.phase ≡ false
   -- nothing is visible in the client's queue
   pub none : visible event_of (queue d past r.client) ≡ 0
 
-abbrev IsLeft : Description → ℕ → List Step → Reading → ℕ → Type 0
+abbrev IsLeft : Description → ℕ → List Step → ReaderState → ℕ → Type 0
 IsLeft d most past r k = IsAhead d most past r.client k ⊎ IsSpent d past r
 
 -- The line goes on with less left to do.
-record GoesOn (d : Description) (most bound : ℕ) (past : List Step) (r : Reading) : Type 0 where
+record GoesOn (d : Description) (most bound : ℕ) (past : List Step) (r : ReaderState) : Type 0 where
   left : ℕ
   is_left : IsLeft d most past r left
   within : length past + left ≤ bound
@@ -145,7 +145,7 @@ is_last Synced = false
 is_last _ = true
 
 -- what comes of a round, where the history is to stay within a bound
-abbrev IsRound : Description → ℕ → ℕ → List Step → Next × Reading → Type 0
+abbrev IsRound : Description → ℕ → ℕ → List Step → Next × ReaderState → Type 0
 IsRound d most bound past o = ((is_last o.0 ≡ true) × (length past ≤ bound)) ⊎ GoesOn d most bound past o.1
 
 last-stop : (reply : Reply) → is_last (stop_of reply) ≡ true
@@ -171,12 +171,12 @@ fewer d most past client k ahead some = by_reads ahead.reads ahead.enough ahead.
 
 -- A round
 
-within : (d : Description) (most bound : ℕ) (past : List Step) (r : Reading) → GoesOn d most bound past r
+within : (d : Description) (most bound : ℕ) (past : List Step) (r : ReaderState) → GoesOn d most bound past r
     → length past ≤ bound
 within d most bound past r i = omega (arith, i.within)
 
 -- nothing else was known of the reader
-with_left : (d : Description) (most bound : ℕ) (past : List Step) (r : Reading) (phase : Phase)
+with_left : (d : Description) (most bound : ℕ) (past : List Step) (r : ReaderState) (phase : Phase)
     (events : List Event) → is_needed phase ≡ false → GoesOn d most bound past r
     → GoesOn d most bound past (record r { phase = phase; left = events })
 with_left d most bound past r phase events unneeded i = record {
@@ -189,20 +189,20 @@ with_left d most bound past r phase events unneeded i = record {
 }
 
 -- a reader that has events at hand is to read on
-ahead-of : (d : Description) (most k : ℕ) (past : List Step) (r : Reading) (taken : Taken) (rest : List Taken)
-    → r.queue ≡ taken ∷ rest → IsLeft d most past r k → IsAhead d most past r.client k
+ahead-of : (d : Description) (most k : ℕ) (past : List Step) (r : ReaderState) (taken : Taken)
+    (rest : List Taken) → r.queue ≡ taken ∷ rest → IsLeft d most past r k → IsAhead d most past r.client k
 ahead-of d most k past r taken rest q (inl ahead) = ahead
 ahead-of d most k past r taken rest q (inr spent) =
     absurd (let never : [] ≡ taken ∷ rest = sym spent.empty ∙ q in cc)
 
 -- so is one that is to synchronise
-ahead-needed : (d : Description) (most k : ℕ) (past : List Step) (r : Reading) → r.phase ≡ Needed
+ahead-needed : (d : Description) (most k : ℕ) (past : List Step) (r : ReaderState) → r.phase ≡ Needed
     → IsLeft d most past r k → IsAhead d most past r.client k
 ahead-needed d most k past r needed (inl ahead) = ahead
 ahead-needed d most k past r needed (inr spent) =
     absurd (let never : false ≡ true = sym spent.unneeded ∙ ap is_needed needed in cc)
 
-after-read : (d : Description) (most bound : ℕ) (s t : List Step) (r : Reading) (a : Answer)
+after-read : (d : Description) (most bound : ℕ) (s t : List Step) (r : ReaderState) (a : Answer)
     → Exact d s (Read r.client 64) a t → is_accepted a.reply ≡ true → GoesOn d most bound s r
     → GoesOn d most bound t (record r { queue = a.events })
 after-read d most bound s t r a by is i =
@@ -276,7 +276,7 @@ abbrev pub Within : ℕ → List Step → Job → Type 0
 Within bound past j = length past ≤ bound
 
 -- a line without a number, in its midst
-abbrev InMidst : Description → ℕ → ℕ → List Step → Going → Type 0
+abbrev InMidst : Description → ℕ → ℕ → List Step → LineProgress → Type 0
 InMidst d most bound past g = (g.left ≡ None) × GoesOn d most bound past g.job.reading
 
 follow-turn : (d : Description) (most bound agains : ℕ) (past : List Step) (next : Next) (j : Job)
@@ -301,15 +301,15 @@ follow-turn d most bound agains past next j round = by next (on round) (last rou
     by Synced goes ends = (refl, goes refl)
     by _ goes ends = ends
 
-follow-round : (d : Description) (most bound : ℕ) → HasQueries d most → (s : List Step) (g : Going)
+follow-round : (d : Description) (most bound : ℕ) → HasQueries d most → (s : List Step) (g : LineProgress)
     → InMidst d most bound s g
     → Meets Any (Exact d) (OfTurn (Within bound) (InMidst d most bound)) s (next_round d None false g)
 follow-round d most bound has s g i =
-    let talk : Talk (Next × Reading) = next_talk d (mode_of false g.job.reading.phase) g.job.reading in
+    let talk : Talk (Next × ReaderState) = next_talk d (mode_of false g.job.reading.phase) g.job.reading in
     round-meets (Exact d) (Within bound) (InMidst d most bound) d s None false g
     (meets-weaker Any (NotedBy (Exact d))
-    (λ (u : List Step × List Sight) (o : Next × Reading). IsRound d most bound u.0 o)
-    (λ (u : List Step × List Sight) (o : Next × Reading).
+    (λ (u : List Step × List Sight) (o : Next × ReaderState). IsRound d most bound u.0 o)
+    (λ (u : List Step × List Sight) (o : Next × ReaderState).
     OfTurn (Within bound) (InMidst d most bound) u.0 (after_next None g (o, u.1)))
     (s, g.job.sight) talk
     (note-meets (Exact d) (IsRound d most bound) s g.job.sight talk
@@ -351,7 +351,7 @@ abbrev Short : {A : Type 0} → ℕ → List Step → A → Type 0
 Short bound past a = length past ≤ bound
 
 -- a start opens a client and makes each query once
-start-talk : (d : Description) (most : ℕ) (r : Reading) (past : List Step) → HasQueries d most
+start-talk : (d : Description) (most : ℕ) (r : ReaderState) (past : List Step) → HasQueries d most
     → Meets Any (Exact d) (Short (length past + suc most)) past (start_talk d r)
 start-talk d most r past h = start-meets Any (Exact d) (Short (length past + suc most)) d r past (record {
   asks_open = tt;

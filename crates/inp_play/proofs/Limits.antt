@@ -8,9 +8,10 @@ use Rattle.inp_reader.specs.Reader.{start_stop_of, queries}
 use Rattle.inp_script.specs.Client.{handed as handed_out, one_less, is_done, hand_talk}
 use Rattle.inp_script.proofs.Common.{Step, Reply, Description, View, Mode, Started, Next, stop_after}
 use Rattle.inp_script.proofs.Common.{stop_after_start, Answer, answer, answer_by, accepted, past_after}
-use Rattle.inp_script.proofs.Common.{is_accepted, Reading, start_talk, stop_of, next_talk, Job}
+use Rattle.inp_script.proofs.Common.{is_accepted, ReaderState, start_talk, stop_of, next_talk, Job}
 use Rattle.inp_script.proofs.Common.{call_if, tap_call_if, Refused as StepRefused, Talk, finish, ask}
-use Rattle.inp_script.proofs.Common.{talk_with, Going, start_job, with_sight, turn_after, after_next, mode_of}
+use Rattle.inp_script.proofs.Common.{talk_with, LineProgress, start_job, with_sight, turn_after, after_next}
+use Rattle.inp_script.proofs.Common.{mode_of}
 use Rattle.inp_script.proofs.Common.{next_round, start_joystick}
 use Rattle.inp_script.specs.declared.sight.Sight.{Sight}
 use Rattle.inp_model.specs.declared.step.Step.TheVariants.{Open}
@@ -131,10 +132,10 @@ start-stop (StepRefused at LogFull) other = absurd cc
 start-stop (StepRefused at _) other = refl
 start-stop _ other = refl
 
-abbrev HasNoStop : Unit {0} → Started × Reading → Type 0
+abbrev HasNoStop : Unit {0} → Started × ReaderState → Type 0
 HasNoStop s o = stop_after_start o.0 ≡ None
 
-starts : (d : Description) (r : Reading) → Meets Any NotFull HasNoStop tt (start_talk d r)
+starts : (d : Description) (r : ReaderState) → Meets Any NotFull HasNoStop tt (start_talk d r)
 starts d r = start-meets Any NotFull HasNoStop d r tt (record {
   asks_open = tt;
   opened = λ t a at client ring by is.
@@ -174,7 +175,7 @@ abbrev is_full_next : Next → Bool
 is_full_next (Full at) = true
 is_full_next _ = false
 
-abbrev IsNext : Unit {0} → Next × Reading → Type 0
+abbrev IsNext : Unit {0} → Next × ReaderState → Type 0
 IsNext s o = is_full_next o.0 ≡ false
 
 next-stop : (reply : Reply) → is_log_full reply ≡ false → is_full_next (stop_of reply) ≡ false
@@ -184,7 +185,7 @@ next-stop (StepRefused at _) other = refl
 next-stop _ other = refl
 
 next-rules : (d : Description) (mode : Mode)
-    → NextRules Any NotFull (λ (s : Unit {0}) (r : Reading). Unit {0}) IsNext d mode
+    → NextRules Any NotFull (λ (s : Unit {0}) (r : ReaderState). Unit {0}) IsNext d mode
 next-rules d mode = record {
   asks_read = λ s r i. tt;
   reads = λ s t r a i plain none by is. tt;
@@ -195,7 +196,7 @@ next-rules d mode = record {
   idles = λ s r i plain is. refl;
   syncs = λ s r i needed.
       sync-meets Any NotFull (λ (u : Unit {0}) (view : View) (left : List Step). Unit {0})
-      (Renewed (λ (u : Unit {0}) (o : Reading). Unit {0}) IsNext r) d s r (record {
+      (Renewed (λ (u : Unit {0}) (o : ReaderState). Unit {0}) IsNext r) d s r (record {
         asks = λ u view x xs j. tt;
         told = λ u t view x xs a j by is. tt;
         stopped = λ u t view x xs a j by is. next-stop a.reply by;
@@ -223,17 +224,17 @@ turn-stop left agains next j other h = by next other
     by (Full at) e = absurd cc
     by _ e = h
 
-stays-round : (d : Description) (s : Unit {0}) (g : Going) → g.job.stop ≡ None
+stays-round : (d : Description) (s : Unit {0}) (g : LineProgress) → g.job.stop ≡ None
     → Meets Any NotFull (OfTurn IsGoing (OfGoing IsGoing)) s (next_round d None false g)
 stays-round d s g h =
-    let talk : Talk (Next × Reading) = next_talk d (mode_of false g.job.reading.phase) g.job.reading in
+    let talk : Talk (Next × ReaderState) = next_talk d (mode_of false g.job.reading.phase) g.job.reading in
     round-meets NotFull IsGoing (OfGoing IsGoing) d s None false g
-    (meets-weaker Any (NotedBy NotFull) (λ (u : Unit {0} × List Sight) (o : Next × Reading). IsNext u.0 o)
-    (λ (u : Unit {0} × List Sight) (o : Next × Reading).
+    (meets-weaker Any (NotedBy NotFull) (λ (u : Unit {0} × List Sight) (o : Next × ReaderState). IsNext u.0 o)
+    (λ (u : Unit {0} × List Sight) (o : Next × ReaderState).
     OfTurn IsGoing (OfGoing IsGoing) u.0 (after_next None g (o, u.1)))
     (s, g.job.sight) talk
     (note-meets NotFull IsNext s g.job.sight talk
-    (next-meets Any NotFull (λ (u : Unit {0}) (r : Reading). Unit {0}) IsNext d _
+    (next-meets Any NotFull (λ (u : Unit {0}) (r : ReaderState). Unit {0}) IsNext d _
     (next-rules d _) s g.job.reading tt))
     (λ u o k. turn-stop g.left g.agains o.0 (record g.job { reading = o.1; sight = u.1 }) k h))
 

@@ -23,7 +23,7 @@ use Rattle.inp_uinput.specs.UdevView.{UdevView, device_of, owned_view}
 use Rattle.inp_uinput.specs.OwnedFeeds.{IsFeedbackOf}
 use Rattle.inp_uinput.proofs.Tied.{untied-calls, tied-calls}
 use Rattle.inp_script.specs.ActorLine.{ActsLine}
-use Rattle.inp_script.specs.Owner.{Owning, after_feedback, FeedsUnless, FeedsLine}
+use Rattle.inp_script.specs.Owner.{OwnerState, after_feedback, FeedsUnless, FeedsLine}
 use Rattle.inp_runs.specs.Play.{feedback_calls_after, after_talk, unless_owner_stopped, after_line_of}
 use Rattle.inp_play.specs.Player.{pasts_of, feedback_calls_of}
 use Rattle.inp_play.proofs.Common.{Stage, after_line, after_lines, stage_with, HasDevices, HasActors}
@@ -253,7 +253,7 @@ calls_kept d kept room =
 -- What a line of an owner leaves, by whether it had stopped. A call with room for so many events, but for
 -- no more than ever wait, is one with room for so many.
 feed_leaves : (devices : List UdevView) (actors : List ActorView) (i number : ℕ) (a : ActorView)
-    (device after : UdevView) (count : ℕ) (new : Owning) (stop : Option Stop)
+    (device after : UdevView) (count : ℕ) (new : OwnerState) (stop : Option Stop)
     → slice_get devices i ≡ Some device → slice_get actors number ≡ Some a → a.actor ≡ number
     → device.description ≡ a.description
     → FeedsUnless IsFeedbackOf stop device after (min count FEEDBACK_MAX) a.owning new
@@ -271,7 +271,7 @@ feed_leaves devices actors i number a device after count new None is_device is_a
     let steps : steps_in after.kept ≡ steps_in kept = ap steps_in left_is ∙ steps_kept d kept count in
     let calls : feedback_calls_after (fed d kept count) (calls_in kept) ≡ calls_in after.kept =
     sym (ap calls_in left_is ∙ calls_kept d kept count) in
-    let told : Description → List UEntry → Owning =
+    let told : Description → List UEntry → OwnerState =
     λ e es. after_feedback (fed e es count) (taken_by_feedback e es count) a.owning in
     let left : Description → List UEntry → Stage =
     λ e es. record s {
@@ -294,7 +294,7 @@ feed_leaves devices actors i number a device after count new
     )
 
 feed_does : (r : RecordView) (devices : List UdevView) (actors : List ActorView) (number : ℕ) (line : Line)
-    (text : ActorText) (a : ActorView) (device after : UdevView) (count : ℕ) (new : Owning)
+    (text : ActorText) (a : ActorView) (device after : UdevView) (count : ℕ) (new : OwnerState)
     → IsFound r devices actors number line text a device → feedback_room line.command ≡ Some count
     → FeedsLine IsFeedbackOf device after (min count FEEDBACK_MAX) a.owning new
     → after_line r 0 (stage_with devices actors) line
@@ -375,7 +375,7 @@ devices_stay r devices i device after has there same = map-set_same
 
 -- the actor that was changed has the number, role and description that it had
 pub actors_stay : (r : RecordView) (actors : List ActorView) (i : ℕ) (a : ActorView) (job : Job)
-    (owning : Owning) → HasActors r actors → slice_get actors i ≡ Some a
+    (owning : OwnerState) → HasActors r actors → slice_get actors i ≡ Some a
     → HasActors r (slice_set actors i (record a { job = job; owning = owning }))
 actors_stay r actors i a job owning has there = record {
   count = length-set actors i (record a { job = job; owning = owning }) ∙ has.count;

@@ -53,7 +53,7 @@ impl Player {
         let dev = &mut self.devices[device as usize];
         let actor = &mut self.actors[text.actor as usize];
         if count == 0 {
-            actor.act(dev, rec, line, None)?;
+            actor.do_line(dev, rec, line, None)?;
             return Ok(1);
         }
         actor.inject_all(dev, &self.events[..count])?;

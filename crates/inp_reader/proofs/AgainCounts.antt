@@ -23,8 +23,8 @@ use Rattle.inp_reader.specs.declared.next.Next.{Next}
 use Rattle.inp_reader.specs.declared.started.Started.{Started}
 use Rattle.inp_reader.specs.LeftEvdev.{agains_after_next}
 use Rattle.inp_reader.specs.ReaderPlace.{is_read}
-use Rattle.inp_reader.specs.Reader.{Reading, queries, start_talk, next_talk, stop_of}
-use Rattle.inp_reader.specs.Says.{Says}
+use Rattle.inp_reader.specs.Reader.{ReaderState, queries, start_talk, next_talk, stop_of}
+use Rattle.inp_reader.specs.FollowsTalk.{FollowsTalk}
 use Rattle.inp_reader.proofs.Meets.{Any, IsCallOn, says-meets}
 use Rattle.inp_reader.proofs.NextWalk.{OfQueries, each-query, sync_steps, each-sync, AskRules, asked-meets}
 use Rattle.inp_reader.proofs.NextWalk.{sync-meets, Queried, start-meets, Renewed, NextRules, next-says}
@@ -179,10 +179,10 @@ accepted-same : (reply : Reply) (n : ℕ) → is_accepted reply ≡ true → aga
 accepted-same (NothingVisible at ends) n h = absurd cc
 accepted-same _ n h = refl
 
-abbrev Rises : ℕ → EvdevView → Next × Reading → Type 0
+abbrev Rises : ℕ → EvdevView → Next × ReaderState → Type 0
 Rises n told result = told.agains ≡ agains_after_next result.0 n
 
-abbrev CountsIn : Description → ℕ → EvdevView → Reading → Type 0
+abbrev CountsIn : Description → ℕ → EvdevView → ReaderState → Type 0
 CountsIn d n told r = Counts d n told
 
 rises-rules : (d : Description) (n : ℕ) (mode : Mode) → NextRules Any IsCallOn (CountsIn d n) (Rises n) d mode
@@ -207,8 +207,8 @@ rises-rules d n mode = record {
 
 -- the count rises by one where `next` answers Again
 pub says-agains : (d : Description) {before after : EvdevView} {made : List CallMade} (mode : Mode)
-    (r : Reading) {s : Reading} {next : Next} → before.description ≡ d
-    → Says before after [] made (next_talk d mode r) (next, s)
+    (r : ReaderState) {s : ReaderState} {next : Next} → before.description ≡ d
+    → FollowsTalk before after [] made (next_talk d mode r) (next, s)
     → after.agains ≡ agains_after_next next before.agains
 says-agains d {before} {after} {made} mode r {s} {next} same h =
     let n : ℕ = before.agains in
@@ -216,12 +216,12 @@ says-agains d {before} {after} {made} mode r {s} {next} same h =
     (record { described = same; count = refl }) h
 
 -- it stays in a start
-pub says-no_agains : (d : Description) (before after : EvdevView) (made : List CallMade) (r : Reading)
-    (result : Started × Reading) → before.description ≡ d → Says before after [] made (start_talk d r) result
-    → after.agains ≡ before.agains
+pub says-no_agains : (d : Description) (before after : EvdevView) (made : List CallMade) (r : ReaderState)
+    (result : Started × ReaderState) → before.description ≡ d
+    → FollowsTalk before after [] made (start_talk d r) result → after.agains ≡ before.agains
 says-no_agains d before after made r result same h =
     let n : ℕ = before.agains in
-    let Q : EvdevView → Started × Reading → Type 0 = λ told o. told.agains ≡ n in
+    let Q : EvdevView → Started × ReaderState → Type 0 = λ told o. told.agains ≡ n in
     let c : Counts d n before = record { described = same; count = refl } in
     says-meets Any Q before after [] made (start_talk d r) result
     (start-meets Any IsCallOn Q d r before (record {

@@ -17,7 +17,7 @@ use Rattle.inp_recon.proofs.Each.{Each}
 use Rattle.inp_reader.specs.declared.call_made.CallMade.{CallMade}
 use Rattle.inp_reader.specs.LeftEvdev.{accepted_places, LeavesMade}
 use Rattle.inp_model.specs.Leaves.{AreCalls, places_of as places_of_calls}
-use Rattle.inp_reader.specs.Says.{kept_call, calls_kept, Says}
+use Rattle.inp_reader.specs.FollowsTalk.{kept_call, calls_kept, FollowsTalk}
 use Rattle.inp_reader.specs.Talk.{Talk, finish, ask, and_then, LeadsTo, EndsWith}
 use Rattle.std.proofs.lemmas.Option.{slice_get_within}
 use Rattle.inp_model.proofs.Leaves.{slice_get-longer, own-grown, calls-leave, AreCalls-append}
@@ -61,12 +61,12 @@ made-left before after calls made kept are = record {
 
 -- the calls of the last `start` or `next` are kept alone
 pub says-anew : {A : Type 0} {before after : EvdevView} {old new : List CallMade} {talk : Talk A} {result : A}
-    → old ≡ [] → Says before after old new talk result → Says before after [] new talk result
+    → old ≡ [] → FollowsTalk before after old new talk result → FollowsTalk before after [] new talk result
 says-anew h s = rw h at s
 
 -- the calls of a talk are those kept and those answered Again, so they leave what calls leave
 pub says-left : {A : Type 0} {before after : EvdevView} {made : List CallMade} {talk : Talk A} {result : A}
-    → Says before after [] made talk result → LeavesMade before after made
+    → FollowsTalk before after [] made talk result → LeavesMade before after made
 says-left s = made-left _ _ s.calls _ s.kept s.are_calls
 
 -- The law of two calls

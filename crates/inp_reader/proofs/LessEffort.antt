@@ -26,9 +26,10 @@ use Rattle.inp_reader.specs.declared.mode.Mode.TheVariants.{Sync as Synchronisin
 use Rattle.inp_reader.specs.declared.phase.Phase.{Phase}
 use Rattle.inp_reader.specs.declared.phase.Phase.TheVariants.{Plain, Needed}
 use Rattle.inp_reader.specs.declared.next.Next.{Next}
-use Rattle.inp_reader.specs.Reader.{Reading, stop_of, as_plain, after_full_sync, after_failed_sync, next_talk}
+use Rattle.inp_reader.specs.Reader.{ReaderState, stop_of, as_plain, after_full_sync, after_failed_sync}
+use Rattle.inp_reader.specs.Reader.{next_talk}
 use Rattle.inp_reader.specs.Effort.{steps_left, most_events, held_back, effort, IsLess, is_idle}
-use Rattle.inp_reader.specs.Says.{Says}
+use Rattle.inp_reader.specs.FollowsTalk.{FollowsTalk}
 use Rattle.inp_reader.specs.Synthesis.{synth}
 use Rattle.inp_reader.proofs.Meets.{Any, IsCallOn}
 use Rattle.inp_reader.proofs.NextWalk.{AskRules, sync-meets, Renewed, NextRules, next-says, stop-cases}
@@ -77,7 +78,7 @@ is_less-stopped reply after before h =
     stop-cases (λ next. IsLess next after before) reply (λ at ends is. h) tt tt (λ at. tt)
 
 -- what an answer leaves is less than before
-abbrev LeavesLess : ℕ → EvdevView → Next × Reading → Type 0
+abbrev LeavesLess : ℕ → EvdevView → Next × ReaderState → Type 0
 LeavesLess before b o = IsLess o.0 (effort b o.1) before
 
 -- one place less is worth more than all that a call hands out
@@ -87,21 +88,21 @@ place_worth left before most behind h k =
     omega (arith, mul-le-mul_right most (let one_more : left + 1 ≤ before = omega arith in one_more))
 
 -- by the device's description
-effort-of : (d : Description) (t : EvdevView) (r : Reading) → t.description ≡ d
+effort-of : (d : Description) (t : EvdevView) (r : ReaderState) → t.description ≡ d
     → effort t r ≡ steps_left t * most_events d + (length r.queue + held_back r.phase r.left)
 unfolding effort
 effort-of d t r h =
     let e : steps_left t * most_events t.description ≡ steps_left t * most_events d = rw h in
     omega (arith, e)
 
-effort-plain : (d : Description) (a : EvdevView) (r : Reading) → a.description ≡ d → r.phase ≡ Plain
+effort-plain : (d : Description) (a : EvdevView) (r : ReaderState) → a.description ≡ d → r.phase ≡ Plain
     → effort a r ≡ steps_left a * most_events d + length r.queue
 effort-plain d a r same plain =
     omega (arith, effort-of d a r same, ap (λ (p : Phase). held_back p r.left) plain)
 
 -- Synchronising
 
-synced-less : (d : Description) (a b : EvdevView) (r : Reading) (view : View) → a.description ≡ d
+synced-less : (d : Description) (a b : EvdevView) (r : ReaderState) (view : View) → a.description ≡ d
     → b.description ≡ d → IsSizedFor d.slots r.view → steps_left b < steps_left a
     → effort b (after_full_sync r view) ≤ effort a r
 synced-less d a b r view same same_b sized falls =
@@ -112,7 +113,7 @@ synced-less d a b r view same same_b sized falls =
     (omega (arith, few)) in
     omega (arith, worth, effort-of d b (after_full_sync r view) same_b, effort-of d a r same)
 
-failed-less : (d : Description) (a b : EvdevView) (r : Reading) → a.description ≡ d → b.description ≡ d
+failed-less : (d : Description) (a b : EvdevView) (r : ReaderState) → a.description ≡ d → b.description ≡ d
     → steps_left b ≤ steps_left a → effort b (after_failed_sync r) ≤ effort a r
 failed-less d a b r same same_b falls =
     let fall = mul-le-mul_right (most_events d) falls in
@@ -121,7 +122,7 @@ failed-less d a b r same same_b falls =
 -- `next`
 
 -- no more is left to do than this, and a call of `next` has something to do
-record IsWithin (d : Description) (most : ℕ) (mode : Mode) (told : EvdevView) (r : Reading) : Type 0 where
+record IsWithin (d : Description) (most : ℕ) (mode : Mode) (told : EvdevView) (r : ReaderState) : Type 0 where
   described : told.description ≡ d
   within : effort told r ≤ most
   sized : r.phase ≡ Needed → IsSizedFor d.slots r.view
@@ -237,7 +238,7 @@ less-rules d most mode = record {
   };
 }
   where
-    less-read : (s t : EvdevView) (r : Reading) (a : Answer) → IsWithin d most mode s r → r.phase ≡ Plain
+    less-read : (s t : EvdevView) (r : ReaderState) (a : Answer) → IsWithin d most mode s r → r.phase ≡ Plain
         → IsCallOn s (Read r.client 64) a t → is_accepted a.reply ≡ true
         → effort t (record r { queue = a.events }) ≤ most
     less-read s t r a i plain h is =
@@ -257,8 +258,8 @@ less-rules d most mode = record {
 
 -- each `next` but an idle one
 pub says-less : (d : Description) {before after : EvdevView} {old made : List CallMade} (mode : Mode)
-    (r : Reading) {s : Reading} {next : Next} → before.description ≡ d → IsSizedFor d.slots r.view
-    → Says before after old made (next_talk d mode r) (next, s) → is_idle mode r.phase ≡ false
+    (r : ReaderState) {s : ReaderState} {next : Next} → before.description ≡ d → IsSizedFor d.slots r.view
+    → FollowsTalk before after old made (next_talk d mode r) (next, s) → is_idle mode r.phase ≡ false
     → IsLess next (effort after s) (effort before r)
 says-less d {before} {after} {old} {made} mode r {s} {next} same sized h busy =
     let most : ℕ = effort before r in

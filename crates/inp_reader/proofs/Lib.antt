@@ -1,7 +1,7 @@
 pub mod Computation
 pub mod Talks
-pub mod SaysInTurn
-pub mod SaysSessions
+pub mod TalksInTurn
+pub mod TalksOfSessions
 pub mod Queues
 pub mod Runs
 pub mod Axes

@@ -13,7 +13,7 @@ use Rattle.inp_model.specs.Description.{Description}
 use Rattle.inp_model.specs.Reply.{Answer, IsAnswer}
 use Rattle.inp_model.specs.Run.{Call}
 use Rattle.inp_reader.specs.declared.call_made.CallMade.{CallMade}
-use Rattle.inp_reader.specs.Says.{Says}
+use Rattle.inp_reader.specs.FollowsTalk.{FollowsTalk}
 use Rattle.inp_reader.proofs.Calls.{AreAnswered}
 use Rattle.inp_reader.specs.Talk.{Talk, finish, ask, and_then, LeadsTo, EndsWith}
 
@@ -188,7 +188,7 @@ calls-run before after (call ∷ calls) h = (h.0, h.1, calls-run h.0 after calls
 -- the calls that were made are a run on the evdev, and they end the talk
 pub says-meets : {A : Type 0} (P : EvdevView → Step → Type 0) (Q : EvdevView → A → Type 0)
     (before after : EvdevView) (old new : List CallMade) (talk : Talk A) (a : A)
-    → Meets P IsCallOn Q before talk → Says before after old new talk a → Q after a
+    → Meets P IsCallOn Q before talk → FollowsTalk before after old new talk a → Q after a
 says-meets P Q before after old new talk a h s =
     meets-ends P IsCallOn Q before after talk s.calls a h
     (calls-run before after s.calls s.are_calls) s.talk_ends

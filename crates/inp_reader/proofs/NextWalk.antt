@@ -33,14 +33,14 @@ use Rattle.inp_reader.specs.declared.next.Next.{Next}
 use Rattle.inp_reader.specs.declared.next.Next.TheVariants.{Success, Dropped, Sync, Synced, Again, NoDevice}
 use Rattle.inp_reader.specs.declared.next.Next.TheVariants.{Closed, Full}
 use Rattle.inp_reader.specs.declared.started.Started.{Started}
-use Rattle.inp_reader.specs.Reader.{Reading, only_if, axes_among, plain_axes, bit_queries, axis_queries}
+use Rattle.inp_reader.specs.Reader.{ReaderState, only_if, axes_among, plain_axes, bit_queries, axis_queries}
 use Rattle.inp_reader.specs.Reader.{slot_queries, queries, ask_each, start_stop_of, after_queries, after_open}
 use Rattle.inp_reader.specs.Reader.{start_talk, stop_of, hand_out_event, hand_out, after_read}
 use Rattle.inp_reader.specs.Reader.{read_or_hand_out, read_talk, hand_synthesised, handing, as_plain}
 use Rattle.inp_reader.specs.Reader.{after_full_sync, after_failed_sync, talk_after_sync, sync_talk, talk_in}
 use Rattle.inp_reader.specs.Reader.{next_talk}
 use Rattle.inp_reader.specs.ReaderPlace.{is_needed}
-use Rattle.inp_reader.specs.Says.{Says}
+use Rattle.inp_reader.specs.FollowsTalk.{FollowsTalk}
 use Rattle.inp_reader.specs.Talk.{finish, EndsWith}
 use Rattle.inp_reader.proofs.Meets.{Meets, Any, AnyAnswer, AnyEnd, OfEach, meets-then, meets-if, Asks}
 use Rattle.inp_reader.proofs.Meets.{meets-asks, Runs, meets-ends, IsCallOn, says-meets}
@@ -123,19 +123,20 @@ each-sync d client P discard h = (discard, each-query d client P h)
 
 -- ---- steps asked for in order
 
-abbrev pub Queried : {S : Type 0} → (S → Started × Reading → Type 0) → ℕ → ℕ → Reading → S
+abbrev pub Queried : {S : Type 0} → (S → Started × ReaderState → Type 0) → ℕ → ℕ → ReaderState → S
     → Result View Reply → Type 0
 Queried Q client ring r s asked = Q s (after_queries client ring r asked)
 
 -- what a synchronisation has to leave
-abbrev pub Renewed : {S : Type 0} → (S → Reading → Type 0) → (S → Next × Reading → Type 0) → Reading → S
-    → Result View Reply → Type 0
+abbrev pub Renewed : {S : Type 0} → (S → ReaderState → Type 0) → (S → Next × ReaderState → Type 0)
+    → ReaderState → S → Result View Reply → Type 0
 Renewed I Q r s (Ok view) = I s (after_full_sync r view)
 Renewed I Q r s (Err reply) = Q s (stop_of reply, after_failed_sync r)
 
 -- In Sync mode, where a synchronisation is needed: what that has to leave, of which the first event is handed
 -- out.
-abbrev pub Handed : {S : Type 0} → (S → Next × Reading → Type 0) → Reading → S → Result View Reply → Type 0
+abbrev pub Handed : {S : Type 0} → (S → Next × ReaderState → Type 0) → ReaderState → S → Result View Reply
+    → Type 0
 Handed Q r s (Ok view) = Q s (handing (after_full_sync r view))
 Handed Q r s (Err reply) = Q s (stop_of reply, after_failed_sync r)
 
@@ -170,13 +171,13 @@ module _ {S : Type 0} (P : S → Step → Type 0) (R : S → Step → Answer →
 
   -- a synchronisation's
   pub sync-meets : (J : S → View → List Step → Type 0) (Q : S → Result View Reply → Type 0) (d : Description)
-      (s : S) (r : Reading)
+      (s : S) (r : ReaderState)
       → AskRules J Q → J s r.view (sync_steps d r.client) → Meets P R Q s (sync_talk d r)
   unfolding sync_talk
   sync-meets J Q d s r rules j = asked-meets J Q rules s (sync_steps d r.client) r.view j
 
   -- the same by its two parts, of a step that sets nothing in the view and of the queries
-  pub record SyncRules (Q : S → Result View Reply → Type 0) (d : Description) (r : Reading)
+  pub record SyncRules (Q : S → Result View Reply → Type 0) (d : Description) (r : ReaderState)
       (s : S) : Type 0 where
     -- the Discard may be asked for
     pub asks_discard : P s (Discard r.client)
@@ -188,7 +189,7 @@ module _ {S : Type 0} (P : S → Step → Type 0) (R : S → Step → Answer →
         → Q t (Err a.reply)
 
   -- the reply to a Discard sets nothing in the view, so the queries start with the reader's view
-  pub sync-by_parts : (Q : S → Result View Reply → Type 0) (d : Description) (r : Reading) (s : S)
+  pub sync-by_parts : (Q : S → Result View Reply → Type 0) (d : Description) (r : ReaderState) (s : S)
       → SyncRules Q d r s → Meets P R Q s (sync_talk d r)
   unfolding sync_talk ask_each view_after_answer
   sync-by_parts Q d r s rules = (
@@ -203,7 +204,7 @@ module _ {S : Type 0} (P : S → Step → Type 0) (R : S → Step → Answer →
 
   -- ---- a start
 
-  pub record StartRules (Q : S → Started × Reading → Type 0) (d : Description) (r : Reading)
+  pub record StartRules (Q : S → Started × ReaderState → Type 0) (d : Description) (r : ReaderState)
       (s : S) : Type 0 where
     -- the Open may be asked for
     pub asks_open : P s Open
@@ -215,7 +216,7 @@ module _ {S : Type 0} (P : S → Step → Type 0) (R : S → Step → Answer →
         → ((at client ring : ℕ) → a.reply ≡ Opened at client ring → ⊥) → Q t (start_stop_of a.reply, r)
 
   -- by the reply to the Open: the queries follow, or the start ends there
-  pub start-meets : (Q : S → Started × Reading → Type 0) (d : Description) (r : Reading) (s : S)
+  pub start-meets : (Q : S → Started × ReaderState → Type 0) (d : Description) (r : ReaderState) (s : S)
       → StartRules Q d r s → Meets P R Q s (start_talk d r)
   unfolding start_talk
   start-meets Q d r s rules = (
@@ -238,89 +239,91 @@ module _ {S : Type 0} (P : S → Step → Type 0) (R : S → Step → Answer →
   -- ---- `next`
 
   -- What is known of the reader, I, stays so on each way through `next`, and shows Q of each end.
-  pub record NextRules (I : S → Reading → Type 0) (Q : S → Next × Reading → Type 0) (d : Description)
+  pub record NextRules (I : S → ReaderState → Type 0) (Q : S → Next × ReaderState → Type 0) (d : Description)
       (mode : Mode) : Type 0 where
     -- a read, where the queue is empty
-    pub asks_read : (s : S) (r : Reading) → I s r → P s (Read r.client 64)
+    pub asks_read : (s : S) (r : ReaderState) → I s r → P s (Read r.client 64)
     -- a read that was accepted: what it took is the queue
-    pub reads : (s t : S) (r : Reading) (a : Answer) → I s r → r.phase ≡ Plain → r.queue ≡ []
+    pub reads : (s t : S) (r : ReaderState) (a : Answer) → I s r → r.phase ≡ Plain → r.queue ≡ []
         → R s (Read r.client 64) a t → is_accepted a.reply ≡ true → I t (record r { queue = a.events })
     -- a read that was not accepted: its reply says how `next` ends
-    pub stops : (s t : S) (r : Reading) (a : Answer) → I s r → r.phase ≡ Plain → r.queue ≡ []
+    pub stops : (s t : S) (r : ReaderState) (a : Answer) → I s r → r.phase ≡ Plain → r.queue ≡ []
         → R s (Read r.client 64) a t → is_accepted a.reply ≡ false → Q t (stop_of a.reply, r)
     -- the first event of the queue
-    pub hands : (s : S) (r : Reading) (taken : Taken) (rest : List Taken) → I s r → r.phase ≡ Plain
+    pub hands : (s : S) (r : ReaderState) (taken : Taken) (rest : List Taken) → I s r → r.phase ≡ Plain
         → r.queue ≡ taken ∷ rest → is_dropped taken.event ≡ false
         → Q s (Success taken, record r { queue = rest; view = view_after_event r.view taken.event })
     -- the same of a SYN_DROPPED: the next call is to synchronise
-    pub loses : (s : S) (r : Reading) (taken : Taken) (rest : List Taken) → I s r → r.phase ≡ Plain
+    pub loses : (s : S) (r : ReaderState) (taken : Taken) (rest : List Taken) → I s r → r.phase ≡ Plain
         → r.queue ≡ taken ∷ rest → is_dropped taken.event ≡ true
         → Q s (
           Dropped taken,
           record r { queue = rest; view = view_after_event r.view taken.event; phase = Needed },
         )
     -- an accepted read that took nothing, which never comes, would end with Closed
-    pub empty : (s : S) (r : Reading) → I s r → r.phase ≡ Plain → r.queue ≡ [] → Q s (Closed, r)
+    pub empty : (s : S) (r : ReaderState) → I s r → r.phase ≡ Plain → r.queue ≡ [] → Q s (Closed, r)
     -- synchronised already
-    pub idles : (s : S) (r : Reading) → I s r → r.phase ≡ Plain → mode ≡ Synchronising → Q s (Synced, r)
+    pub idles : (s : S) (r : ReaderState) → I s r → r.phase ≡ Plain → mode ≡ Synchronising → Q s (Synced, r)
     -- a synchronisation
-    pub syncs : (s : S) (r : Reading) → I s r → r.phase ≡ Needed → Meets P R (Renewed I Q r) s (sync_talk d r)
+    pub syncs : (s : S) (r : ReaderState) → I s r → r.phase ≡ Needed
+    → Meets P R (Renewed I Q r) s (sync_talk d r)
     -- the next event that it made, if there is one, or on without them
-    pub makes : (s : S) (r : Reading) (event : Event) (left : List Event) → I s r → r.phase ≡ Handing
+    pub makes : (s : S) (r : ReaderState) (event : Event) (left : List Event) → I s r → r.phase ≡ Handing
         → mode ≡ Synchronising → r.left ≡ event ∷ left → Q s (Sync event, record r { left = left })
     -- where none is left, the answer is Synced, and the phase is Plain
-    pub made_all : (s : S) (r : Reading) → I s r → r.phase ≡ Handing → mode ≡ Synchronising → r.left ≡ []
+    pub made_all : (s : S) (r : ReaderState) → I s r → r.phase ≡ Handing → mode ≡ Synchronising → r.left ≡ []
         → Q s (Synced, as_plain r)
     -- a call in Normal mode drops those that are left, and reads on
-    pub goes_on : (s : S) (r : Reading) → I s r → r.phase ≡ Handing → mode ≡ Normal → I s (as_plain r)
+    pub goes_on : (s : S) (r : ReaderState) → I s r → r.phase ≡ Handing → mode ≡ Normal → I s (as_plain r)
 
   -- by phase and mode, each way through `next` is made of the rules in order
-  pub next-meets : (I : S → Reading → Type 0) (Q : S → Next × Reading → Type 0)
+  pub next-meets : (I : S → ReaderState → Type 0) (Q : S → Next × ReaderState → Type 0)
       (d : Description) (mode : Mode)
-      → NextRules I Q d mode → (s : S) (r : Reading) → I s r → Meets P R Q s (next_talk d mode r)
+      → NextRules I Q d mode → (s : S) (r : ReaderState) → I s r → Meets P R Q s (next_talk d mode r)
   unfolding read_talk
   next-meets I Q d mode rules s r i = in_phase mode refl s r r.phase refl i
     where
-      event : (t : S) (r : Reading) (taken : Taken) (rest : List Taken) → I t r → r.phase ≡ Plain
+      event : (t : S) (r : ReaderState) (taken : Taken) (rest : List Taken) → I t r → r.phase ≡ Plain
           → r.queue ≡ taken ∷ rest → Q t (hand_out_event r taken rest)
       event t r taken rest i plain is =
-          cond_both (is_dropped taken.event) _ _ (λ (o : Next × Reading). Q t o)
+          cond_both (is_dropped taken.event) _ _ (λ (o : Next × ReaderState). Q t o)
           (λ e. rules.loses t r taken rest i plain is e) (λ e. rules.hands t r taken rest i plain is e)
 
-      queue : (t : S) (r : Reading) (q : List Taken) → I t (record r { queue = q }) → r.phase ≡ Plain
+      queue : (t : S) (r : ReaderState) (q : List Taken) → I t (record r { queue = q }) → r.phase ≡ Plain
           → Q t (hand_out r q)
       queue t r [] i plain = rules.empty t (record r { queue = [] }) i plain refl
       queue t r (taken ∷ rest) i plain = event t (record r { queue = taken ∷ rest }) taken rest i plain refl
 
-      after : (t u : S) (r : Reading) (a : Answer) → I t r → r.phase ≡ Plain → r.queue ≡ []
+      after : (t u : S) (r : ReaderState) (a : Answer) → I t r → r.phase ≡ Plain → r.queue ≡ []
           → R t (Read r.client 64) a u → Q u (after_read r a)
       after t u r a i plain is allowed =
-          cond_both (is_accepted a.reply) _ _ (λ (o : Next × Reading). Q u o)
+          cond_both (is_accepted a.reply) _ _ (λ (o : Next × ReaderState). Q u o)
           (λ e. queue u r a.events (rules.reads t u r a i plain is allowed e) plain)
           (λ e. rules.stops t u r a i plain is allowed e)
 
-      read : (t : S) (r : Reading) (q : List Taken) → r.queue ≡ q → I t r → r.phase ≡ Plain
+      read : (t : S) (r : ReaderState) (q : List Taken) → r.queue ≡ q → I t r → r.phase ≡ Plain
           → Meets P R Q t (read_or_hand_out r q)
       read t r [] is i plain = (rules.asks_read t r i, λ u a allowed. after t u r a i plain is allowed)
       read t r (taken ∷ rest) is i plain = event t r taken rest i plain is
 
-      synthesised : mode ≡ Synchronising → (t : S) (r : Reading) (left : List Event) → r.left ≡ left → I t r
+      synthesised : mode ≡ Synchronising → (t : S) (r : ReaderState) (left : List Event) → r.left ≡ left
+      → I t r
           → r.phase ≡ Handing → Q t (hand_synthesised r left)
       synthesised e t r [] is i p = rules.made_all t r i p e is
       synthesised e t r (event ∷ left) is i p = rules.makes t r event left i p e is
 
-      going : (m : Mode) → mode ≡ m → (t : S) (r : Reading) → I t r → r.phase ≡ Handing
+      going : (m : Mode) → mode ≡ m → (t : S) (r : ReaderState) → I t r → r.phase ≡ Handing
           → Meets P R Q t (talk_in d m Handing r)
       going Normal e t r i p = read t (as_plain r) r.queue refl (rules.goes_on t r i p e) refl
       going Synchronising e t r i p = synthesised e t r r.left refl i p
 
-      renewed : (m : Mode) → mode ≡ m → (t : S) (r : Reading) (asked : Result View Reply)
+      renewed : (m : Mode) → mode ≡ m → (t : S) (r : ReaderState) (asked : Result View Reply)
           → Renewed I Q r t asked → Meets P R Q t (talk_after_sync m r asked)
       renewed m e t r (Err reply) h = h
       renewed Normal e t r (Ok view) h = going Normal e t (after_full_sync r view) h refl
       renewed Synchronising e t r (Ok view) h = going Synchronising e t (after_full_sync r view) h refl
 
-      in_phase : (m : Mode) → mode ≡ m → (t : S) (r : Reading) (phase : Phase) → r.phase ≡ phase → I t r
+      in_phase : (m : Mode) → mode ≡ m → (t : S) (r : ReaderState) (phase : Phase) → r.phase ≡ phase → I t r
           → Meets P R Q t (talk_in d m phase r)
       in_phase Normal e t r Plain p i = read t r r.queue refl i p
       in_phase Synchronising e t r Plain p i = rules.idles t r i p e
@@ -330,7 +333,7 @@ module _ {S : Type 0} (P : S → Step → Type 0) (R : S → Step → Answer →
       in_phase m e t r Handing p i = going m e t r i p
 
   -- a Sync call in phase Needed synchronises, and then hands out the first event that it made
-  pub needed-meets : (Q : S → Next × Reading → Type 0) (d : Description) (s : S) (r : Reading)
+  pub needed-meets : (Q : S → Next × ReaderState → Type 0) (d : Description) (s : S) (r : ReaderState)
       → is_needed r.phase ≡ true → Meets P R (Handed Q r) s (sync_talk d r)
       → Meets P R Q s (next_talk d Synchronising r)
   needed-meets Q d s r needed h = by r.phase needed
@@ -348,18 +351,18 @@ module _ {S : Type 0} (P : S → Step → Type 0) (R : S → Step → Answer →
       by Handing e = absurd (true≢false (sym e))
 
   -- the same of calls that were made
-  pub next-ends : (I : S → Reading → Type 0) (Q : S → Next × Reading → Type 0) (d : Description) (mode : Mode)
-      → NextRules I Q d mode
-      → (s t : S) (r : Reading) (calls : List Call) (o : Next × Reading) → I s r → Runs R s calls t
+  pub next-ends : (I : S → ReaderState → Type 0) (Q : S → Next × ReaderState → Type 0) (d : Description)
+      (mode : Mode) → NextRules I Q d mode
+      → (s t : S) (r : ReaderState) (calls : List Call) (o : Next × ReaderState) → I s r → Runs R s calls t
       → EndsWith (next_talk d mode r) calls o → Q t o
   next-ends I Q d mode rules s t r calls o i run ends =
       meets-ends P R Q s t (next_talk d mode r) calls o (next-meets I Q d mode rules s r i) run ends
 
 -- the calls that a reader made are one way through `next`, which ends where they end
-pub next-says : (I : EvdevView → Reading → Type 0) (Q : EvdevView → Next × Reading → Type 0) (d : Description)
-    (mode : Mode) → NextRules Any IsCallOn I Q d mode
-    → (before after : EvdevView) (old new : List CallMade) (r : Reading) (o : Next × Reading) → I before r
-    → Says before after old new (next_talk d mode r) o → Q after o
+pub next-says : (I : EvdevView → ReaderState → Type 0) (Q : EvdevView → Next × ReaderState → Type 0)
+    (d : Description) (mode : Mode) → NextRules Any IsCallOn I Q d mode
+    → (before after : EvdevView) (old new : List CallMade) (r : ReaderState) (o : Next × ReaderState)
+    → I before r → FollowsTalk before after old new (next_talk d mode r) o → Q after o
 next-says I Q d mode rules before after old new r o i says =
     says-meets Any Q before after old new (next_talk d mode r) o
     (next-meets Any IsCallOn I Q d mode rules before r i) says
@@ -398,7 +401,7 @@ pub record OfNext (d : Description) (client : ℕ) (P : Step → Type 0) : Type 
   pub queries : OfQueries d client P
 
 -- a reader of this client
-abbrev IsOfClient : ℕ → Unit {0} → Reading → Type 0
+abbrev IsOfClient : ℕ → Unit {0} → ReaderState → Type 0
 IsOfClient client s r = client ≡ r.client
 
 next-asks-rules : (d : Description) (client : ℕ) (mode : Mode) (P : Step → Type 0) → OfNext d client P
@@ -428,7 +431,7 @@ next-asks-rules d client mode P of = record {
 }
 
 -- a reader stays with its client, and `next` asks for a read, a Discard and queries alone
-pub next-asks : (P : Step → Type 0) (d : Description) (mode : Mode) (r : Reading) → OfNext d r.client P
+pub next-asks : (P : Step → Type 0) (d : Description) (mode : Mode) (r : ReaderState) → OfNext d r.client P
     → Asks P (next_talk d mode r)
 next-asks P d mode r of =
     meets-asks P (next_talk d mode r)
@@ -438,17 +441,17 @@ next-asks P d mode r of =
 -- ---- the rows that the code follows
 
 -- in phase Plain a Sync call asks for nothing
-pub plain-synced : (d : Description) (mode : Mode) (r : Reading) → r.phase ≡ Plain → mode ≡ Synchronising
+pub plain-synced : (d : Description) (mode : Mode) (r : ReaderState) → r.phase ≡ Plain → mode ≡ Synchronising
     → next_talk d mode r ≡ finish (Synced, r)
 plain-synced d mode r plain is = rw (plain, is)
 
 -- in phase Handing it hands out the next synthesised event
-pub handing-made : (d : Description) (mode : Mode) (r : Reading) → mode ≡ Synchronising
+pub handing-made : (d : Description) (mode : Mode) (r : ReaderState) → mode ≡ Synchronising
     → talk_in d mode Handing r ≡ finish (handing r)
 handing-made d mode r is = rw is
 
 -- behind a synchronisation a call goes on as in phase Handing
-pub synced-handing : (d : Description) (mode : Mode) (r s : Reading) (view : View)
+pub synced-handing : (d : Description) (mode : Mode) (r s : ReaderState) (view : View)
     → s ≡ after_full_sync r view → talk_in d mode Handing s ≡ talk_after_sync mode r (Ok view)
 synced-handing d mode r s view same = rw same (by mode)
   where
@@ -457,7 +460,7 @@ synced-handing d mode r s view same = rw same (by mode)
     by Synchronising = refl
 
 -- in phase Plain a `next` hands out the first event of the queue, and makes no call
-pub next-queued : (d : Description) (r : Reading) (t : Taken) (q : List Taken) → r.phase ≡ Plain
+pub next-queued : (d : Description) (r : ReaderState) (t : Taken) (q : List Taken) → r.phase ≡ Plain
     → r.queue ≡ t ∷ q → next_talk d Normal r ≡ finish (hand_out_event r t q)
 unfolding read_talk
 next-queued d r t q plain queue = rw (plain, queue)

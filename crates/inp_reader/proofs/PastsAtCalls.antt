@@ -17,7 +17,7 @@ use Rattle.inp_model.specs.Run.{Call, place_of, next_place}
 use Rattle.inp_reader.specs.declared.call_made.CallMade.{CallMade}
 use Rattle.inp_reader.specs.LeftEvdev.{accepted_places}
 use Rattle.inp_model.specs.Leaves.{AreCalls}
-use Rattle.inp_reader.specs.Says.{calls_kept}
+use Rattle.inp_reader.specs.FollowsTalk.{calls_kept}
 use Rattle.inp_reader.specs.ReaderPlace.{is_use_of}
 use Rattle.inp_reader.proofs.Calls.{AreAnswered, IsPlaceOf, place-known, place-least}
 use Rattle.inp_model.proofs.Leaves.{seen-kept, calls-legal, slice_get-longer}

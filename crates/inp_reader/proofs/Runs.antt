@@ -13,7 +13,7 @@ use Rattle.inp_recon.specs.Synchronised.{is_dropped}
 use Rattle.inp_recon.specs.View.{view_after_events, view_after_event}
 use Rattle.inp_reader.specs.declared.phase.Phase.{Phase}
 use Rattle.inp_reader.specs.declared.phase.Phase.TheVariants.{Needed}
-use Rattle.inp_reader.specs.Reader.{Reading, first_run, has_loss, is_plain_phase, queued_run, after_run}
+use Rattle.inp_reader.specs.Reader.{ReaderState, first_run, has_loss, is_plain_phase, queued_run, after_run}
 use Rattle.std.specs.List.{All}
 use Rattle.std.proofs.lemmas.List.Elements.{All-head, All-tail, All-same}
 use Rattle.inp_model.specs.declared.step.Step.{Step}
@@ -111,12 +111,12 @@ pub at-index : (i j : ℕ) (q : List Taken) (default : Taken) (b : Bool) → i �
 at-index i j q default b same is = rw same is
 
 -- in phase Plain the run is that of the queue
-pub plain-run : (most : ℕ) (r : Reading) → is_plain_phase r.phase ≡ true
+pub plain-run : (most : ℕ) (r : ReaderState) → is_plain_phase r.phase ≡ true
     → queued_run most r ≡ first_run most r.queue
 plain-run most r h = rw h
 
 -- the run is a front part of the queue, or empty, and behind it stands the rest
-pub queue-run : (most : ℕ) (r : Reading)
+pub queue-run : (most : ℕ) (r : ReaderState)
     → queued_run most r ++ drop (length (queued_run most r)) r.queue ≡ r.queue
 queue-run most r =
     cond_both (is_plain_phase r.phase) (first_run most r.queue) []
@@ -126,7 +126,7 @@ queue-run most r =
 -- Where so many are queued, they are the first so many
 
 -- the run is a front part of the queue, so the queue has as many events at least
-pub few-queued : (count : ℕ) (r : Reading) → length (queued_run count r) ≡ count → count ≤ length r.queue
+pub few-queued : (count : ℕ) (r : ReaderState) → length (queued_run count r) ≡ count → count ≤ length r.queue
 few-queued count r h =
     omega (
       arith,
@@ -136,7 +136,7 @@ few-queued count r h =
     )
 
 -- the run is a front part of the queue, so the first events, as many, are the run
-pub front-queued : (count : ℕ) (r : Reading) → length (queued_run count r) ≡ count
+pub front-queued : (count : ℕ) (r : ReaderState) → length (queued_run count r) ≡ count
     → take count r.queue ≡ queued_run count r
 front-queued count r h =
     rw queue-run at (take_at (queued_run count r) (drop (length (queued_run count r)) r.queue) count h)
@@ -152,14 +152,14 @@ run_again (suc most) (t ∷ q) =
     (λ lost. if_lost (is_dropped t.event) t (first_run 0 q) lost)
     (λ kept. rw (if_kept, run_again most q))
 
-queued_again : (most : ℕ) (r : Reading) → queued_run (length (queued_run most r)) r ≡ queued_run most r
+queued_again : (most : ℕ) (r : ReaderState) → queued_run (length (queued_run most r)) r ≡ queued_run most r
 queued_again most r =
     cond_both (is_plain_phase r.phase) (first_run most r.queue) [] (λ run. queued_run (length run) r ≡ run)
     (λ plain. plain-run (length (first_run most r.queue)) r plain ∙ run_again most r.queue)
     (λ other. rw other)
 
 -- where as many are asked for as the run has, the run is the same
-pub queued-many : (most count : ℕ) (r : Reading) (run : List Taken) → run ≡ queued_run most r
+pub queued-many : (most count : ℕ) (r : ReaderState) (run : List Taken) → run ≡ queued_run most r
     → count ≡ length run → queued_run count r ≡ queued_run most r
 queued-many most count r run is many = rw (many, is) (queued_again most r)
 
@@ -189,7 +189,8 @@ last-loss (suc most) (t ∷ q) last default =
         rw (none, or-false)
     behind kept ih (suc i) h = rw (kept, ← ih i default (omega (arith, h)))
 
-queued_loss : (most : ℕ) (r : Reading) (last : ℕ) (default : Taken) → length (queued_run most r) ≡ suc last
+queued_loss : (most : ℕ) (r : ReaderState) (last : ℕ) (default : Taken)
+    → length (queued_run most r) ≡ suc last
     → is_dropped (get_or (queued_run most r) last default).event ≡ has_loss (queued_run most r)
 queued_loss most r last default =
     cond_both (is_plain_phase r.phase) (first_run most r.queue) [] (λ run. length run ≡ suc last
@@ -197,14 +198,14 @@ queued_loss most r last default =
     (λ plain. last-loss most r.queue last default) (λ other h. absurd (omega (arith, h)))
 
 -- a run goes no further than a loss, so its last event tells of one where any does
-pub run-loss : (most : ℕ) (r : Reading) (run : List Taken) (last : ℕ) (default : Taken)
+pub run-loss : (most : ℕ) (r : ReaderState) (run : List Taken) (last : ℕ) (default : Taken)
     → run ≡ queued_run most r → length run ≡ suc last
     → is_dropped (get_or run last default).event ≡ has_loss run
 run-loss most r run last default is = rw is (queued_loss most r last default)
 
 -- a reader that handed out the first of its queue, as many as are queued
-pub run-taken : (count : ℕ) (r : Reading) (run queue : List Taken) (view : View) (lost : Bool) (phase : Phase)
-    → length (queued_run count r) ≡ count → run ≡ queued_run count r
+pub run-taken : (count : ℕ) (r : ReaderState) (run queue : List Taken) (view : View) (lost : Bool)
+    (phase : Phase) → length (queued_run count r) ≡ count → run ≡ queued_run count r
     → queue ≡ drop count r.queue → view ≡ view_after_events r.view (map (λ (t : Taken). t.event) run)
     → lost ≡ has_loss run → phase ≡ (if lost then Needed else r.phase)
     → record r { queue = queue; view = view; phase = phase } ≡ after_run r (queued_run count r)
@@ -222,7 +223,7 @@ spare-run d v (t ∷ run) rest all h =
     (IsSpare-after_event d v t.event (All-head (IsTakenOf d) t (run ++ rest) all) h)
 
 -- the events of the queue are the device's, so they set nothing that it cannot have
-pub keeps-run : (d : Description) (most : ℕ) (r : Reading) → HasSpare d r
+pub keeps-run : (d : Description) (most : ℕ) (r : ReaderState) → HasSpare d r
     → HasSpare d (after_run r (queued_run most r))
 keeps-run d most r h =
     let run : List Taken = queued_run most r in
@@ -239,7 +240,7 @@ not_lost true phase h = absurd cc
 not_lost false phase h = h
 
 -- no step is made: the run goes from the queue to what was handed out
-pub stands-run : (d : Description) (past : List Step) (most : ℕ) (r : Reading) → StandsAt d past r
+pub stands-run : (d : Description) (past : List Step) (most : ℕ) (r : ReaderState) → StandsAt d past r
     → StandsAt d past (after_run r (queued_run most r))
 stands-run d past most r s =
     let run : List Taken = queued_run most r in

@@ -26,7 +26,7 @@ use Rattle.inp_model.proofs.Descriptions.{get_or-replicate_same}
 use Rattle.inp_model.specs.History.{IsHistory}
 use Rattle.inp_recon.specs.Faithful.{IsDeviceState, AreFaithful}
 use Rattle.inp_recon.proofs.Sizes.{IsSizedFor-first_view, length-axes_after_event, length-cells_after_event}
-use Rattle.inp_reader.specs.Reader.{Reading, queries}
+use Rattle.inp_reader.specs.Reader.{ReaderState, queries}
 use Rattle.inp_reader.specs.TrueView.{index_handed_out, ShowsTheDevice}
 use Rattle.inp_recon.specs.Synchronised.{has_axis}
 use Rattle.inp_reader.specs.Spare.{IsSpare}
@@ -56,7 +56,7 @@ at-it xs ys zs t i h =
     )
 
 -- A reader that handed out this event last.
-module _ (d : Description) (past : List Step) (r : Reading) (t : Taken) (h : IsHandedOut d past r t)
+module _ (d : Description) (past : List Step) (r : ReaderState) (t : Taken) (h : IsHandedOut d past r t)
     (history : IsHistory d past) where
   -- all that its client took since its start
   taken-since : taken_by_calls (calls_since d past r.client) ≡ (h.before ++ t ∷ []) ++ r.queue
@@ -161,7 +161,7 @@ agree-events which v w (e ∷ es) a =
     agree-events which (view_after_event v e) (view_after_event w e) es (agree-event which v w e a)
 
 -- the client's view and the reader's agree in all that the device has
-pub agree-then : (d : Description) (past : List Step) (r : Reading) (t : Taken) (at : ReadEntry)
+pub agree-then : (d : Description) (past : List Step) (r : ReaderState) (t : Taken) (at : ReadEntry)
     → IsHandedOut d past r t → IsHistory d past
     → slice_get (read_entries d past r.client) (index_handed_out d past r) ≡ Some at
     → AgreeBut (what_is_had d) [] (view_at d r.client at) r.view
@@ -220,7 +220,7 @@ state-shown d r v w a s h = record {
     by (suc n) some = sym (a.cells (rw some (lt-ltb 0 (suc n) (omega arith))) refl) ∙ h.cells
 
 -- a reader that handed out an event shows the device, where every history is faithful to every client
-pub shows-device : AreFaithful → (d : Description) (past : List Step) (r : Reading) (t : Taken)
+pub shows-device : AreFaithful → (d : Description) (past : List Step) (r : ReaderState) (t : Taken)
     → IsDescription d → IsHistory d past → IsSpare d r.view → IsHandedOut d past r t
     → ShowsTheDevice d past r t
 shows-device law d past r t is history spare h =

@@ -27,7 +27,7 @@ use Rattle.inp_reader.specs.declared.phase.Phase.TheVariants.{Plain, Needed, Han
 use Rattle.inp_reader.specs.declared.next.Next.{Next}
 use Rattle.inp_reader.specs.declared.next.Next.TheVariants.{Success}
 use Rattle.inp_reader.specs.declared.started.Started.{Started}
-use Rattle.inp_reader.specs.Reader.{Reading, ask_each, queries, start_talk, next_talk, sync_talk}
+use Rattle.inp_reader.specs.Reader.{ReaderState, ask_each, queries, start_talk, next_talk, sync_talk}
 use Rattle.inp_reader.specs.Reader.{after_queries, start_stop_of, stop_of, as_plain, after_full_sync}
 use Rattle.inp_reader.specs.Reader.{after_failed_sync}
 use Rattle.inp_recon.specs.Synchronised.{is_discard_of, is_start}
@@ -241,7 +241,7 @@ IsMadeAnew d client view =
     → view_after_answers view calls ≡ view_after_answers (first_view d) calls
 
 -- the reader is in step, and this is the last event that it handed out
-pub record IsHandedOut (d : Description) (past : List Step) (r : Reading) (last : Taken) : Type 0 where
+pub record IsHandedOut (d : Description) (past : List Step) (r : ReaderState) (last : Taken) : Type 0 where
   -- the reader is in step
   pub in_step : IsInStep d past r
   -- what it handed out before
@@ -254,7 +254,7 @@ AreReads-append [] more h k = k
 AreReads-append (read ∷ reads) more h k = (h.0, AreReads-append reads more h.1 k)
 
 -- A reader that is in step.
-module _ {d : Description} {past : List Step} {r : Reading} (i : IsInStep d past r) where
+module _ {d : Description} {past : List Step} {r : ReaderState} (i : IsInStep d past r) where
   -- It is so after more reads, where this run of what it had and read is handed out and the rest is queued.
   pub in-step-on : (after : List Step) (more : List Call) (run rest : List Taken) (phase : Phase)
       (left : List Event)
@@ -327,31 +327,31 @@ module _ {d : Description} {past : List Step} {r : Reading} (i : IsInStep d past
       (rw empty (append-nil call.answer.events))
 
 -- the same reader, at a past since which nothing was read or asked for
-pub in-step-kept : (d : Description) (past after : List Step) (r : Reading) → IsInStep d past r
+pub in-step-kept : (d : Description) (past after : List Step) (r : ReaderState) → IsInStep d past r
     → calls_since d after r.client ≡ calls_since d past r.client → IsInStep d after r
 in-step-kept d past after r i same = in-step-moved i after r.phase r.left same
 
 -- what is known of the event that `next` answers
-abbrev pub HandsOut : Description → List Step → Next → Reading → Type 0
+abbrev pub HandsOut : Description → List Step → Next → ReaderState → Type 0
 HandsOut d past (Success taken) r = IsHandedOut d past r taken
 HandsOut d past _ r = Unit {0}
 
 -- what of where a reader stands is about its client
-pub record IsOpenInStep (d : Description) (past : List Step) (r : Reading) : Type 0 where
+pub record IsOpenInStep (d : Description) (past : List Step) (r : ReaderState) : Type 0 where
   -- its client was opened
   pub opened : r.client < opens past
   -- unless it is to synchronise it is in step
   pub in_step : is_needed r.phase ≡ false → IsInStep d past r
 
 -- how `next` leaves a reader
-pub record Leaves (d : Description) (past : List Step) (result : Next × Reading) : Type 0 where
+pub record Leaves (d : Description) (past : List Step) (result : Next × ReaderState) : Type 0 where
   -- its client was opened, and it is in step unless it is to synchronise
   pub stands : IsOpenInStep d past result.1
   -- where `next` answered an event, that is the last one handed out
   pub hands_out : HandsOut d past result.0 result.1
 
 -- a stop is no event
-stop-hands : (d : Description) (past : List Step) (reply : Reply) (r : Reading)
+stop-hands : (d : Description) (past : List Step) (reply : Reply) (r : ReaderState)
     → HandsOut d past (stop_of reply) r
 stop-hands d past reply r =
     stop-cases (λ next. HandsOut d past next r) reply (λ at ends is. tt) tt tt (λ at. tt)
@@ -376,7 +376,7 @@ run-met d client past after (call ∷ calls) h = (h.0, h.1, run-met d client h.0
 -- Synchronising
 
 -- a reader with this view, and nothing read
-abbrev just_synchronised : ℕ → View → Phase → List Event → Reading
+abbrev just_synchronised : ℕ → View → Phase → List Event → ReaderState
 just_synchronised client view phase left =
     record { client = client; queue = []; view = view; phase = phase; left = left }
 
@@ -427,13 +427,13 @@ not_needed phase is e h = ap is_needed e ∙ h
 
 module _ (d : Description) (client : ℕ) where
   -- what is known of a reader, of whose client alone the rule is
-  record StandsAs (past : List Step) (r : Reading) : Type 0 where
+  record StandsAs (past : List Step) (r : ReaderState) : Type 0 where
     same : client ≡ r.client
     opened : r.client < opens past
     in_step : is_needed r.phase ≡ false → IsInStep d past r
     anew : r.phase ≡ Needed → IsMadeAnew d r.client r.view
 
-  stands-read : (past after : List Step) (r : Reading) (a : Answer) → StandsAs past r → r.phase ≡ Plain
+  stands-read : (past after : List Step) (r : ReaderState) (a : Answer) → StandsAs past r → r.phase ≡ Plain
       → r.queue ≡ [] → MetBy d client past (Read r.client 64) a after → is_accepted a.reply ≡ true
       → StandsAs after (record r { queue = a.events })
   stands-read past after r a s plain empty by is =
@@ -447,7 +447,7 @@ module _ (d : Description) (client : ℕ) where
         anew = λ e. absurd (let k : Plain ≡ Needed = sym plain ∙ e in cc);
       }
 
-  stands-stopped_read : (past after : List Step) (r : Reading) (a : Answer) → StandsAs past r
+  stands-stopped_read : (past after : List Step) (r : ReaderState) (a : Answer) → StandsAs past r
       → MetBy d client past (Read r.client 64) a after → is_accepted a.reply ≡ false
       → Leaves d after (stop_of a.reply, r)
   stands-stopped_read past after r a s by is =
@@ -463,7 +463,7 @@ module _ (d : Description) (client : ℕ) where
         hands_out = stop-hands d after a.reply r;
       }
 
-  stands-renewed : (past : List Step) (r : Reading) → StandsAs past r → r.phase ≡ Needed
+  stands-renewed : (past : List Step) (r : ReaderState) → StandsAs past r → r.phase ≡ Needed
       → Meets Any (MetBy d client) (Renewed StandsAs (Leaves d) r) past (sync_talk d r)
   unfolding sync_talk
   stands-renewed past r s needed =
@@ -533,8 +533,8 @@ module _ (d : Description) (client : ℕ) where
   }
 
 -- a reader that stood stands after `next`, and what that handed out is the last event that was
-pub stands-after-next : (d : Description) (mode : Mode) (past after : List Step) (r : Reading)
-    (calls : List Call) (result : Next × Reading) → IsOpenInStep d past r → IsMadeAnew d r.client r.view
+pub stands-after-next : (d : Description) (mode : Mode) (past after : List Step) (r : ReaderState)
+    (calls : List Call) (result : Next × ReaderState) → IsOpenInStep d past r → IsMadeAnew d r.client r.view
     → AreMet d r.client past after calls → EndsWith (next_talk d mode r) calls result → Leaves d after result
 stands-after-next d mode past after r calls result s anew m ends =
     let here : StandsAs d r.client past r =
@@ -558,7 +558,7 @@ unfolding opens
 open-opens past client h = omega (arith, h)
 
 -- what a start leaves once its queries ended
-pub stands-queried : (d : Description) (client ring : ℕ) (past after : List Step) (r : Reading)
+pub stands-queried : (d : Description) (client ring : ℕ) (past after : List Step) (r : ReaderState)
     (asked : Result View Reply) (calls : List Call) → client < opens past → calls_since d past client ≡ []
     → IsMadeAnew d client r.view → AreMet d client past after calls
     → EndsWith (ask_each (queries d client) r.view) calls asked
@@ -571,7 +571,7 @@ stands-queried d client ring past after r (Ok view) calls opened none anew m h =
 stands-queried d client ring past after r (Err reply) calls opened none anew m h =
     record { opened = opens-met d client past after calls opened m; in_step = λ needed. absurd cc }
 
-pub client-of-queried : (client ring : ℕ) (r : Reading) (asked : Result View Reply)
+pub client-of-queried : (client ring : ℕ) (r : ReaderState) (asked : Result View Reply)
     → (after_queries client ring r asked).1.client ≡ client
 client-of-queried client ring r (Ok view) = refl
 client-of-queried client ring r (Err reply) = refl
@@ -581,10 +581,10 @@ not-opened (Refused at why) = refl
 not-opened _ = refl
 
 -- how a reader may have stood before a start: it did, or the start opened a client
-unfoldable pub StoodOrOpened : Description → List Step → Reading → Started → Type 0
+unfoldable pub StoodOrOpened : Description → List Step → ReaderState → Started → Type 0
 StoodOrOpened d past r started = IsOpenInStep d past r ⊎ (has_opened started ≡ true)
 
-stands-stopped : (d : Description) (past after : List Step) (r : Reading) (call : Call) (reply : Reply)
+stands-stopped : (d : Description) (past after : List Step) (r : ReaderState) (call : Call) (reply : Reply)
     → call.step ≡ Open → IsMet d r.client past after call
     → IsOpenInStep d past r ⊎ (has_opened (start_stop_of reply) ≡ true) → IsOpenInStep d after r
 stands-stopped d past after r call reply opening m (inl s) = record {
@@ -595,8 +595,8 @@ stands-stopped d past after r call reply opening m (inl s) = record {
 stands-stopped d past after r call reply opening m (inr o) = absurd (cc (not-opened reply))
 
 -- once an Open was accepted and the queries ended
-stands-opened : (d : Description) (past mid after : List Step) (r : Reading) (a : Answer) (at client ring : ℕ)
-    (asked : Result View Reply) (calls : List Call) → IsMadeAnew d client r.view
+stands-opened : (d : Description) (past mid after : List Step) (r : ReaderState) (a : Answer)
+    (at client ring : ℕ) (asked : Result View Reply) (calls : List Call) → IsMadeAnew d client r.view
     → MetBy d client past Open a mid → a.reply ≡ Opened at client ring → AreMet d client mid after calls
     → EndsWith (ask_each (queries d client) r.view) calls asked
     → IsOpenInStep d after (after_queries client ring r asked).1
@@ -609,10 +609,10 @@ stands-opened d past mid after r a at client ring asked calls anew met is m ends
     stands-queried d client ring mid after r asked calls opened none anew m ends
 
 -- as the client that it has then, where it stood or the start opened one
-abbrev StandsOn : Description → ℕ → List Step → Reading → List Step → Started × Reading → Type 0
+abbrev StandsOn : Description → ℕ → List Step → ReaderState → List Step → Started × ReaderState → Type 0
 StandsOn d client past r after o = o.1.client ≡ client → StoodOrOpened d past r o.0 → IsOpenInStep d after o.1
 
-start-rules : (d : Description) (client : ℕ) (past : List Step) (r : Reading)
+start-rules : (d : Description) (client : ℕ) (past : List Step) (r : ReaderState)
     → ((n : ℕ) → IsMadeAnew d n r.view)
     → StartRules Any (MetBy d client) (StandsOn d client past r) d r past
 unfolding StoodOrOpened
@@ -632,8 +632,8 @@ start-rules d client past r anew = record {
 }
 
 -- a reader stands after a start that opened a client, and after any start where it stood
-pub stands-after-start : (d : Description) (past after : List Step) (r : Reading) (calls : List Call)
-    (result : Started × Reading) → ((client : ℕ) → IsMadeAnew d client r.view)
+pub stands-after-start : (d : Description) (past after : List Step) (r : ReaderState) (calls : List Call)
+    (result : Started × ReaderState) → ((client : ℕ) → IsMadeAnew d client r.view)
     → AreMet d result.1.client past after calls → StoodOrOpened d past r result.0
     → EndsWith (start_talk d r) calls result → IsOpenInStep d after result.1
 stands-after-start d past after r calls result anew m stood ends =

@@ -16,10 +16,10 @@ use Rattle.inp_reader.specs.declared.mode.Mode.{Mode}
 use Rattle.inp_reader.specs.declared.next.Next.{Next}
 use Rattle.inp_reader.specs.declared.next.Next.TheVariants.{Success}
 use Rattle.inp_reader.specs.declared.started.Started.{Started}
-use Rattle.inp_reader.specs.Reader.{Reading, start_talk, next_talk, sync_talk, ask_each, queries}
+use Rattle.inp_reader.specs.Reader.{ReaderState, start_talk, next_talk, sync_talk, ask_each, queries}
 use Rattle.inp_reader.specs.Reader.{start_stop_of, after_open, after_queries, first_run, has_loss}
 use Rattle.inp_reader.specs.Reader.{is_plain_phase, queued_run, after_run}
-use Rattle.inp_reader.specs.Says.{Says, kept_call, calls_kept}
+use Rattle.inp_reader.specs.FollowsTalk.{FollowsTalk, kept_call, calls_kept}
 use Rattle.inp_reader.specs.Spare.{IsSpare, HasSpare}
 use Rattle.inp_reader.specs.TrueView.{ShowsTheDevice, AnswerShows}
 use Rattle.inp_model.specs.declared.taken.Taken.{Taken}
@@ -54,8 +54,8 @@ history-still d before after calls same are h =
     (history-kept before after calls are (rw same h))
 
 -- after any start, which makes a call
-history-started : (d : Description) (before after : EvdevView) (r : Reading) (calls : List Call)
-    (result : Started × Reading) → before.description ≡ d → AreCalls before after calls
+history-started : (d : Description) (before after : EvdevView) (r : ReaderState) (calls : List Call)
+    (result : Started × ReaderState) → before.description ≡ d → AreCalls before after calls
     → EndsWith (start_talk d r) calls result → IsHistory d (reverse after.seen)
 unfolding start_talk LeadsTo AreCalls
 history-started d before after r [] result same are h = absurd cc
@@ -63,18 +63,19 @@ history-started d before after r (call ∷ calls) result same are h =
     let c : IsCall before are.0 call = are.1 in
     history-still d are.0 after calls (c.description ∙ same) are.2 (rw (c.description, same) at c.history)
 
-stands-with : (d : Description) (past : List Step) (r : Reading) → IsHistory d past → IsOpenInStep d past r
-    → StandsAt d past r
+stands-with : (d : Description) (past : List Step) (r : ReaderState) → IsHistory d past
+    → IsOpenInStep d past r → StandsAt d past r
 stands-with d past r h s = record { history = h; opened = s.opened; in_step = s.in_step }
 
-open-in-step : (d : Description) (past : List Step) (r : Reading) → StandsAt d past r → IsOpenInStep d past r
+open-in-step : (d : Description) (past : List Step) (r : ReaderState) → StandsAt d past r
+    → IsOpenInStep d past r
 open-in-step d past r s = record { opened = s.opened; in_step = s.in_step }
 
 -- `start`
 
 module _ (d : Description) {before after : EvdevView} {made : List CallMade}
-    (r : Reading) {s : Reading} {started : Started} (same : before.description ≡ d) (spare : HasSpare d r)
-    (h : Says before after [] made (start_talk d r) (started, s)) where
+    (r : ReaderState) {s : ReaderState} {started : Started} (same : before.description ≡ d)
+    (spare : HasSpare d r) (h : FollowsTalk before after [] made (start_talk d r) (started, s)) where
   start-leaves : StoodOrOpened d (reverse before.seen) r started → IsAlone before after s.client made
       → StandsAt d (reverse after.seen) s
   start-leaves stood alone =
@@ -100,10 +101,10 @@ module _ (d : Description) {before after : EvdevView} {made : List CallMade}
 -- `next` keeps the client
 
 -- a reader of this client, and an end that leaves it such
-abbrev IsOfClient : ℕ → Unit {0} → Reading → Type 0
+abbrev IsOfClient : ℕ → Unit {0} → ReaderState → Type 0
 IsOfClient client s r = r.client ≡ client
 
-abbrev EndsOfClient : ℕ → Unit {0} → Next × Reading → Type 0
+abbrev EndsOfClient : ℕ → Unit {0} → Next × ReaderState → Type 0
 EndsOfClient client s o = o.1.client ≡ client
 
 client-rules : (d : Description) (mode : Mode) (client : ℕ)
@@ -123,20 +124,20 @@ client-rules d mode client = record {
   goes_on = λ s r h handing is. h;
 }
   where
-    renewed : (r : Reading) → r.client ≡ client → (t : Unit {0}) (asked : Result View Reply)
+    renewed : (r : ReaderState) → r.client ≡ client → (t : Unit {0}) (asked : Result View Reply)
         → Renewed (IsOfClient client) (EndsOfClient client) r t asked
     renewed r h t (Ok view) = h
     renewed r h t (Err reply) = h
 
 -- on no way through `next` does the reader change its client
-pub client-next : (d : Description) (mode : Mode) (r : Reading) (calls : List Call) (result : Next × Reading)
-    → EndsWith (next_talk d mode r) calls result → result.1.client ≡ r.client
+pub client-next : (d : Description) (mode : Mode) (r : ReaderState) (calls : List Call)
+    (result : Next × ReaderState) → EndsWith (next_talk d mode r) calls result → result.1.client ≡ r.client
 client-next d mode r calls result ends =
     next-ends Any AnyAnswer (IsOfClient r.client) (EndsOfClient r.client) d mode
     (client-rules d mode r.client) tt tt r calls result refl (any-run calls) ends
 
 -- what an event that was handed out shows
-answer-shows : (d : Description) (told : EvdevView) (s : Reading) (made : List CallMade) (next : Next)
+answer-shows : (d : Description) (told : EvdevView) (s : ReaderState) (made : List CallMade) (next : Next)
     → IsDescription d → IsHistory d (reverse told.seen) → IsSpare d s.view
     → HandsOut d (reverse told.seen) next s
     → AnswerShows told (record { description = d; reading = s; made = made }) next
@@ -145,8 +146,8 @@ answer-shows d told s made (Success taken) is history spare h =
 answer-shows d told s made _ is history spare h = tt
 
 module _ (d : Description) {before after : EvdevView} {made : List CallMade} (mode : Mode)
-    (r : Reading) {s : Reading} {next : Next} (same : before.description ≡ d) (spare : HasSpare d r)
-    (h : Says before after [] made (next_talk d mode r) (next, s))
+    (r : ReaderState) {s : ReaderState} {next : Next} (same : before.description ≡ d) (spare : HasSpare d r)
+    (h : FollowsTalk before after [] made (next_talk d mode r) (next, s))
     (stood : StandsAt d (reverse before.seen) r) (alone : IsAlone before after s.client made) where
   -- any `next` of a reader that stood
   pub next-leaves : Leaves d (reverse after.seen) (next, s)
@@ -173,7 +174,7 @@ module _ (d : Description) {before after : EvdevView} {made : List CallMade} (mo
       (says-keeps_next d mode r same spare h).view next-leaves.hands_out
 
 -- Several events that are handed out in one go: the last one shows what it does where `next` answers it.
-pub run-shows : (d : Description) (past : List Step) (most : ℕ) (r : Reading) (front : List Taken)
+pub run-shows : (d : Description) (past : List Step) (most : ℕ) (r : ReaderState) (front : List Taken)
     (last : Taken) → IsDescription d → HasSpare d r → StandsAt d past r
     → queued_run most r ≡ front ++ last ∷ []
     → ShowsTheDevice d past (after_run r (queued_run most r)) last
@@ -200,13 +201,13 @@ none-first : (x : Step) (reply : Reply) (rest : List CallMade)
 none-first x (Opened at client ring) rest h = absurd cc
 none-first x reply rest h = refl
 
-same-after_open : (d : Description) (r : Reading) (reply : Reply) (calls : List Call)
-    (result : Started × Reading) → opened_by reply ≡ None
+same-after_open : (d : Description) (r : ReaderState) (reply : Reply) (calls : List Call)
+    (result : Started × ReaderState) → opened_by reply ≡ None
     → EndsWith (after_open d r reply) calls result → result.1 ≡ r
 same-after_open d r (Opened at client ring) calls result none h = absurd cc
 same-after_open d r reply calls result none h = rw (← (finished (start_stop_of reply, r) result calls h).1)
 
-same-start : (d : Description) (r : Reading) (calls : List Call) (result : Started × Reading)
+same-start : (d : Description) (r : ReaderState) (calls : List Call) (result : Started × ReaderState)
     → client_opened (calls_kept calls) ≡ None → EndsWith (start_talk d r) calls result → result.1 ≡ r
 unfolding start_talk LeadsTo
 same-start d r [] result none h = absurd cc
@@ -216,27 +217,29 @@ same-start d r (call ∷ calls) result none h =
 
 -- where no client was opened all that the reader keeps is as before
 pub says-open_refused : (d : Description) {before after : EvdevView} {made : List CallMade}
-    (r : Reading) {result : Started × Reading} → Says before after [] made (start_talk d r) result
-    → client_opened made ≡ None → result.1 ≡ r
+    (r : ReaderState) {result : Started × ReaderState}
+    → FollowsTalk before after [] made (start_talk d r) result → client_opened made ≡ None → result.1 ≡ r
 says-open_refused d r s none = same-start d r s.calls _ (ap client_opened (sym s.kept) ∙ none) s.talk_ends
 
 -- The queries
 
 -- the reader has this client, and is to synchronise
-abbrev IsBegun : Reading → Reading → Option ℕ → Type 0
+abbrev IsBegun : ReaderState → ReaderState → Option ℕ → Type 0
 IsBegun r s opened = IfSome opened (λ client. s ≡ after_refused_query client r)
 
-begun-queries : (client ring : ℕ) (r : Reading) (asked : Result View Reply) (result : Started × Reading)
+begun-queries : (client ring : ℕ) (r : ReaderState) (asked : Result View Reply)
+    (result : Started × ReaderState)
     → after_queries client ring r asked ≡ result → has_opened result.0 ≡ false
     → result.1 ≡ after_refused_query client r
 begun-queries client ring r (Ok view) result same not = absurd (true≢false (rw (← same) at not))
 begun-queries client ring r (Err reply) result same not = rw (← same)
 
-begun-after_open : (d : Description) (r : Reading) (x : Step) (reply : Reply) (calls : List Call)
-    (result : Started × Reading) → has_opened result.0 ≡ false → EndsWith (after_open d r reply) calls result
+begun-after_open : (d : Description) (r : ReaderState) (x : Step) (reply : Reply) (calls : List Call)
+    (result : Started × ReaderState) → has_opened result.0 ≡ false
+    → EndsWith (after_open d r reply) calls result
     → IsBegun r result.1 (client_opened (kept_call x reply ++ calls_kept calls))
 begun-after_open d r x (Opened at client ring) calls result not h =
-    let next : Result View Reply → Talk (Started × Reading) =
+    let next : Result View Reply → Talk (Started × ReaderState) =
     λ asked. finish (after_queries client ring r asked) in
     let p = split-and_then (ask_each (queries d client) r.view) next calls result h in
     begun-queries client ring r p.between result
@@ -245,7 +248,7 @@ begun-after_open d r x (Again at ends) calls result not h =
     rw ((finished (start_stop_of (Again at ends), r) result calls h).0) tt
 begun-after_open d r x reply calls result not h = tt
 
-begun-start : (d : Description) (r : Reading) (calls : List Call) (result : Started × Reading)
+begun-start : (d : Description) (r : ReaderState) (calls : List Call) (result : Started × ReaderState)
     → has_opened result.0 ≡ false → EndsWith (start_talk d r) calls result
     → IsBegun r result.1 (client_opened (calls_kept calls))
 unfolding start_talk LeadsTo
@@ -255,7 +258,7 @@ begun-start d r (call ∷ calls) result not h =
 
 -- where a client was opened and a query was refused the reader has the client, and is to synchronise
 pub says-query_refused : (d : Description) {before after : EvdevView} {made : List CallMade}
-    (r : Reading) {result : Started × Reading} → Says before after [] made (start_talk d r) result
-    → has_opened result.0 ≡ false
+    (r : ReaderState) {result : Started × ReaderState}
+    → FollowsTalk before after [] made (start_talk d r) result → has_opened result.0 ≡ false
     → IfSome (client_opened made) (λ client. result.1 ≡ after_refused_query client r)
 says-query_refused d r s not = rw s.kept (begun-start d r s.calls _ not s.talk_ends)

@@ -12,9 +12,10 @@ use Rattle.inp_reader.specs.declared.mode.Mode.TheVariants.{Sync as Synchronisin
 use Rattle.inp_reader.specs.declared.phase.Phase.TheVariants.{Plain, Needed, Handing}
 use Rattle.inp_reader.specs.declared.next.Next.{Next}
 use Rattle.inp_reader.specs.Laws.{AreOfOneDevice}
-use Rattle.inp_reader.specs.Reader.{Reading, stop_of, hand_synthesised, after_full_sync, after_failed_sync}
+use Rattle.inp_reader.specs.Reader.{ReaderState, stop_of, hand_synthesised, after_full_sync}
+use Rattle.inp_reader.specs.Reader.{after_failed_sync}
 use Rattle.inp_reader.specs.Reader.{next_talk, queries, start_talk, sync_talk}
-use Rattle.inp_reader.specs.Says.{Says}
+use Rattle.inp_reader.specs.FollowsTalk.{FollowsTalk}
 use Rattle.inp_reader.specs.KeptViews.{IsKeptView, synthesised_in, LeadsOn, KeepsTheView}
 use Rattle.inp_reader.proofs.Meets.{Any, IsCallOn, Meets, says-meets}
 use Rattle.inp_reader.proofs.NextWalk.{Renewed, NextRules, next-says, stop-cases, AskRules, asked-meets}
@@ -65,14 +66,14 @@ LeadsTheView-synth slots old new h =
     (LeadsTheView-behind (LeadsTheView-with_report first)
     (LeadsTheView-with_report (LeadsTheView-behind (leads-classes slots old new slot cells h) slots_changed)))
 
-abbrev pub ResultLeadsOn : View → Next × Reading → Type 0
+abbrev pub ResultLeadsOn : View → Next × ReaderState → Type 0
 ResultLeadsOn view result = LeadsOn view result.0 result.1
 
-abbrev EndLeadsOn : View → EvdevView → Next × Reading → Type 0
+abbrev EndLeadsOn : View → EvdevView → Next × ReaderState → Type 0
 EndLeadsOn view told result = ResultLeadsOn view result
 
 -- the next synthesised event is handed out, where the events that are left lead to the reader's view
-leads-handed : (view : View) (r : Reading) (left : List Event) → r.phase ≡ Handing
+leads-handed : (view : View) (r : ReaderState) (left : List Event) → r.phase ≡ Handing
     → view_after_events view left ≡ r.view → ResultLeadsOn view (hand_synthesised r left)
 unfolding view_after_events
 leads-handed view r [] is h = record { leads = h; goes_on = λ event e. absurd cc; synced = λ e. refl }
@@ -84,7 +85,7 @@ none-stopped : (reply : Reply) → synthesised_in (stop_of reply) ≡ []
 none-stopped reply =
     stop-cases (λ next. synthesised_in next ≡ []) reply (λ at ends is. refl) refl refl (λ at. refl)
 
-leads-failed : (r : Reading) (reply : Reply) → ResultLeadsOn r.view (stop_of reply, after_failed_sync r)
+leads-failed : (r : ReaderState) (reply : Reply) → ResultLeadsOn r.view (stop_of reply, after_failed_sync r)
 unfolding view_after_events
 leads-failed r reply = record {
   leads = rw none-stopped;
@@ -116,7 +117,7 @@ module _ (d : Description) where
     whole = whole;
   }
 
-  pub sync-kept : (Q : EvdevView → Result View Reply → Type 0) (told : EvdevView) (r : Reading)
+  pub sync-kept : (Q : EvdevView → Result View Reply → Type 0) (told : EvdevView) (r : ReaderState)
       → KeepsOn told r.view
       → ((t : EvdevView) (view : View) → KeepsOn t view → Q t (Ok view))
       → ((t : EvdevView) (reply : Reply) → t.description ≡ d → Q t (Err reply))
@@ -124,10 +125,10 @@ module _ (d : Description) where
   sync-kept Q told r k whole stopped =
       sync-meets Any IsCallOn KeepsSoFar Q d told r (kept-asks Q whole stopped) k
 
-  abbrev HasKept : {A : Type 0} → EvdevView → A × Reading → Type 0
+  abbrev HasKept : {A : Type 0} → EvdevView → A × ReaderState → Type 0
   HasKept told result = IsKeptView d result.1.view
 
-  abbrev IsOf : EvdevView → Reading → Type 0
+  abbrev IsOf : EvdevView → ReaderState → Type 0
   IsOf told r = KeepsOn told r.view
 
   kept-rules : (mode : Mode) → NextRules Any IsCallOn IsOf HasKept d mode
@@ -147,12 +148,12 @@ module _ (d : Description) where
   }
 
   -- `next` sets the view by events and answers, which keep its sizes and the axes of slots
-  pub next-kept : (mode : Mode) (r : Reading) → KeepsTheView d r (next_talk d mode r)
+  pub next-kept : (mode : Mode) (r : ReaderState) → KeepsTheView d r (next_talk d mode r)
   next-kept mode r before after old new result same kept says =
       next-says IsOf HasKept d mode (kept-rules mode) before after old new r result (same, kept) says
 
   -- a start sets the view by answers alone, which keep its sizes and the axes of slots
-  pub start-kept : (r : Reading) → KeepsTheView d r (start_talk d r)
+  pub start-kept : (r : ReaderState) → KeepsTheView d r (start_talk d r)
   start-kept r before after old new result same kept says =
       says-meets Any HasKept before after old new (start_talk d r) result
       (start-meets Any IsCallOn HasKept d r before (record {
@@ -179,12 +180,12 @@ module _ (d : Description) where
 
   -- the events that are left lead from this view to the reader's, once it has synchronised, which it does
   -- next where it is to
-  pub record IsLeading (view : View) (told : EvdevView) (r : Reading) : Type 0 where
+  pub record IsLeading (view : View) (told : EvdevView) (r : ReaderState) : Type 0 where
     needed : r.phase ≡ Needed → KeepsOn told r.view × (view ≡ r.view)
     handing : r.phase ≡ Handing → view_after_events view r.left ≡ r.view
     not_plain : r.phase ≡ Plain → ⊥
 
-  leads-synced : (view : View) (told : EvdevView) (r : Reading) (new : View) → IsKeptView d r.view
+  leads-synced : (view : View) (told : EvdevView) (r : ReaderState) (new : View) → IsKeptView d r.view
       → view ≡ r.view → IsKeptView d new → IsLeading view told (after_full_sync r new)
   leads-synced view told r new old is h = record {
     needed = λ e. absurd cc;
@@ -213,21 +214,21 @@ module _ (d : Description) where
   }
 
   -- a Sync call synchronises where it is to, and hands out the first of the events that lead on
-  pub leads-next : (r : Reading) (view : View) (before after : EvdevView) (old new : List CallMade)
-      (result : Next × Reading) → IsLeading view before r
-      → Says before after old new (next_talk d Synchronising r) result → ResultLeadsOn view result
+  pub leads-next : (r : ReaderState) (view : View) (before after : EvdevView) (old new : List CallMade)
+      (result : Next × ReaderState) → IsLeading view before r
+      → FollowsTalk before after old new (next_talk d Synchronising r) result → ResultLeadsOn view result
   leads-next r view before after old new result i says =
       next-says (IsLeading view) (EndLeadsOn view) d Synchronising
       (leads-rules view) before after old new r result i says
 
   -- in phase Needed the reader's own view is the one to lead on from
-  pub leads-from_needed : (told : EvdevView) (r : Reading) → told.description ≡ d → IsKeptView d r.view
+  pub leads-from_needed : (told : EvdevView) (r : ReaderState) → told.description ≡ d → IsKeptView d r.view
       → r.phase ≡ Needed → IsLeading r.view told r
   leads-from_needed told r same kept is =
       record { needed = λ e. ((same, kept), refl); handing = λ e. absurd cc; not_plain = λ e. cc }
 
   -- in phase Handing the events that are left lead to the reader's view
-  pub leads-from_handing : (told : EvdevView) (r : Reading) (view : View) → r.phase ≡ Handing
+  pub leads-from_handing : (told : EvdevView) (r : ReaderState) (view : View) → r.phase ≡ Handing
       → view_after_events view r.left ≡ r.view → IsLeading view told r
   leads-from_handing told r view is h =
       record { needed = λ e. absurd cc; handing = λ e. h; not_plain = λ e. cc }

@@ -10,7 +10,7 @@ use Rattle.inp_recon.specs.declared.view.View.{View}
 use Rattle.inp_recon.specs.View.{view_after_answer}
 use Rattle.inp_reader.specs.Talk.{Talk, finish, ask, and_then, LeadsTo}
 use Rattle.inp_reader.specs.Reader.{ask_each}
-use Rattle.inp_reader.specs.Says.{kept_call, calls_kept}
+use Rattle.inp_reader.specs.FollowsTalk.{kept_call, calls_kept}
 
 -- Talks
 

@@ -18,10 +18,10 @@ use Rattle.inp_reader.specs.declared.mode.Mode.{Mode}
 use Rattle.inp_reader.specs.declared.phase.Phase.TheVariants.{Needed}
 use Rattle.inp_reader.specs.declared.next.Next.{Next}
 use Rattle.inp_reader.specs.declared.started.Started.{Started}
-use Rattle.inp_reader.specs.Reader.{Reading, queries, sync_talk, start_talk, next_talk}
+use Rattle.inp_reader.specs.Reader.{ReaderState, queries, sync_talk, start_talk, next_talk}
 use Rattle.inp_reader.specs.Spare.{IsSpare, HasSpare}
 use Rattle.inp_reader.specs.ReaderCalls.{asked_result}
-use Rattle.inp_reader.specs.Says.{Says}
+use Rattle.inp_reader.specs.FollowsTalk.{FollowsTalk}
 use Rattle.inp_reader.specs.Talk.{EndsWith}
 use Rattle.inp_reader.proofs.Calls.{AreAnswered, answered}
 use Rattle.inp_reader.proofs.Meets.{Any, Answered, answered-run, meets-ends}
@@ -68,10 +68,11 @@ module _ (d : Description) where
 
   -- `next`
 
-  abbrev Keeps : {A : Type 0} → Unit {0} → A × Reading → Type 0
+  abbrev Keeps : {A : Type 0} → Unit {0} → A × ReaderState → Type 0
   Keeps s result = HasSpare d result.1
 
-  keeps-handed : (r s : Reading) (taken : Taken) (rest : List Taken) → HasSpare d r → r.queue ≡ taken ∷ rest
+  keeps-handed : (r s : ReaderState) (taken : Taken) (rest : List Taken) → HasSpare d r
+      → r.queue ≡ taken ∷ rest
       → s ≡ record s { queue = rest; view = view_after_event r.view taken.event } → HasSpare d s
   keeps-handed r s taken rest h q is =
       let all : AreOf (taken ∷ rest) = All-same (IsTakenOf d) (taken ∷ rest) r.queue (sym q) h.queue in
@@ -80,7 +81,7 @@ module _ (d : Description) where
         queue = All-tail (IsTakenOf d) taken rest all;
       })
 
-  abbrev IsSpareReader : Unit {0} → Reading → Type 0
+  abbrev IsSpareReader : Unit {0} → ReaderState → Type 0
   IsSpareReader s r = HasSpare d r
 
   keeps-rules : (mode : Mode) → NextRules Any (Answered d) IsSpareReader Keeps d mode
@@ -108,8 +109,8 @@ module _ (d : Description) where
   }
 
   -- the events that are read are the device's own, and only what it has is asked for
-  pub keeps-next : (mode : Mode) (r : Reading) (calls : List Call) (result : Next × Reading) → HasSpare d r
-      → AreAnswered d calls → EndsWith (next_talk d mode r) calls result → HasSpare d result.1
+  pub keeps-next : (mode : Mode) (r : ReaderState) (calls : List Call) (result : Next × ReaderState)
+      → HasSpare d r → AreAnswered d calls → EndsWith (next_talk d mode r) calls result → HasSpare d result.1
   keeps-next mode r calls result h are ends =
       next-ends Any (Answered d) IsSpareReader Keeps d mode (keeps-rules mode) tt tt r calls result h
       (answered-run d calls are) ends
@@ -121,9 +122,9 @@ module _ (d : Description) where
   SpareView s (Err reply) = Unit {0}
 
   -- one that was not refused
-  pub spare-synced : (before after : EvdevView) (old new : List CallMade) (r : Reading) (stop : Option Reply)
-      (view : View) → before.description ≡ d → IsSpare d r.view
-      → Says before after old new (sync_talk d r) (asked_result stop view) → is_some stop ≡ false
+  pub spare-synced : (before after : EvdevView) (old new : List CallMade) (r : ReaderState)
+      (stop : Option Reply) (view : View) → before.description ≡ d → IsSpare d r.view
+      → FollowsTalk before after old new (sync_talk d r) (asked_result stop view) → is_some stop ≡ false
       → IsSpare d view
   spare-synced before after old new r (Some reply) view same s h whole = absurd cc
   spare-synced before after old new r None view same s h whole =
@@ -134,14 +135,14 @@ module _ (d : Description) where
 
   -- `start`
 
-  keeps-queried : (client ring : ℕ) (r : Reading) → HasSpare d r
+  keeps-queried : (client ring : ℕ) (r : ReaderState) → HasSpare d r
       → AskRules Any (Answered d) IsSpareSoFar (Queried Keeps client ring r)
   keeps-queried client ring r h =
       spare-asks (Queried Keeps client ring r) (λ view told. record { view = told; queue = none-of })
       (λ reply. record { view = h.view; queue = none-of })
 
   -- a start asks only for what the device has, and leaves the queue empty or as it was
-  pub keeps-start : (r : Reading) (calls : List Call) (result : Started × Reading) → HasSpare d r
+  pub keeps-start : (r : ReaderState) (calls : List Call) (result : Started × ReaderState) → HasSpare d r
       → AreAnswered d calls → EndsWith (start_talk d r) calls result → HasSpare d result.1
   keeps-start r calls result h are ends =
       meets-ends Any (Answered d) Keeps tt tt (start_talk d r) calls result
@@ -155,20 +156,20 @@ module _ (d : Description) where
 
   -- an evdev answers as the device, so what it cannot have stays as it was
   pub says-keeps_start : {before after : EvdevView} {old new : List CallMade}
-      (r : Reading) {result : Started × Reading} → before.description ≡ d → HasSpare d r
-      → Says before after old new (start_talk d r) result → HasSpare d result.1
+      (r : ReaderState) {result : Started × ReaderState} → before.description ≡ d → HasSpare d r
+      → FollowsTalk before after old new (start_talk d r) result → HasSpare d result.1
   says-keeps_start r same s h =
       keeps-start r h.calls _ s (answered d _ _ h.calls same h.are_calls) h.talk_ends
 
   -- the same of `next`
   pub says-keeps_next : {before after : EvdevView} {old new : List CallMade} (mode : Mode)
-      (r : Reading) {result : Next × Reading} → before.description ≡ d → HasSpare d r
-      → Says before after old new (next_talk d mode r) result → HasSpare d result.1
+      (r : ReaderState) {result : Next × ReaderState} → before.description ≡ d → HasSpare d r
+      → FollowsTalk before after old new (next_talk d mode r) result → HasSpare d result.1
   says-keeps_next mode r same s h =
       keeps-next mode r h.calls _ s (answered d _ _ h.calls same h.are_calls) h.talk_ends
 
 -- a new reader
-pub new-spare : (d same : Description) (r : Reading) → same ≡ d → r.view ≡ first_view d → r.queue ≡ []
+pub new-spare : (d same : Description) (r : ReaderState) → same ≡ d → r.view ≡ first_view d → r.queue ≡ []
     → HasSpare same r
 new-spare d same r e view empty = record {
   view = rw (e, view) (IsSpare-first_view d);

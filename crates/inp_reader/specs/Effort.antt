@@ -10,7 +10,7 @@ use Rattle.inp_reader.specs.declared.phase.Phase.{Phase}
 use Rattle.inp_reader.specs.declared.phase.Phase.TheVariants.{Plain, Needed, Handing}
 use Rattle.inp_reader.specs.declared.next.Next.{Next}
 use Rattle.inp_reader.specs.declared.next.Next.TheVariants.{Success, Dropped, Sync, Again, Synced, NoDevice, Closed, Full}
-use Rattle.inp_reader.specs.Reader.{Reading}
+use Rattle.inp_reader.specs.Reader.{ReaderState}
 
 -- how many more steps the history may take
 abbrev pub steps_left : EvdevView → ℕ
@@ -27,7 +27,7 @@ held_back Plain left = 0
 held_back Needed left = 0
 
 -- how many answers but Again a reader may still give before its history is full, or more
-unfoldable pub effort : EvdevView → Reading → ℕ
+unfoldable pub effort : EvdevView → ReaderState → ℕ
 effort told r = steps_left told * most_events told.description + length r.queue + held_back r.phase r.left
 
 -- every answer but Again leaves less than before, and Again leaves no more; of the last three nothing is said

@@ -21,8 +21,8 @@ use Rattle.inp_reader.specs.declared.next.Next.{Next}
 use Rattle.inp_reader.specs.declared.next.Next.TheVariants.{Dropped, Sync, Again, Synced, NoDevice, Closed}
 use Rattle.inp_reader.specs.declared.call_made.CallMade.{CallMade}
 use Rattle.inp_reader.specs.Talk.{Talk, talk_with, calls_with}
-use Rattle.inp_reader.specs.Reader.{Reading, start_talk, next_talk}
-use Rattle.inp_reader.specs.Says.{calls_kept}
+use Rattle.inp_reader.specs.Reader.{ReaderState, start_talk, next_talk}
+use Rattle.inp_reader.specs.FollowsTalk.{calls_kept}
 
 -- a talk on a one-thread device: its calls, the past after them and its result
 pub record Played (A : Type 0) : Type 0 where
@@ -38,11 +38,11 @@ played d past talk =
 -- a reader on a one-thread device, with its last answers and the calls that it made
 pub record Stand (A : Type 0) : Type 0 where
   pub past : List Step
-  pub reading : Reading
+  pub reading : ReaderState
   pub answers : List A
   pub made : List CallMade
 
-abbrev pub new_reading : Description → Reading
+abbrev pub new_reading : Description → ReaderState
 new_reading d = record { client = 4294967295; queue = []; view = first_view d; phase = Plain; left = [] }
 
 -- a new reader starts after these steps
@@ -52,7 +52,7 @@ after_start d steps =
     record { past = p.past; reading = p.result.1; answers = p.result.0 ∷ []; made = calls_kept p.calls }
 
 -- `next` is called in these modes
-abbrev pub after_nexts : Description → List Step → Reading → List Mode → List Next → List CallMade → Stand Next
+abbrev pub after_nexts : Description → List Step → ReaderState → List Mode → List Next → List CallMade → Stand Next
 after_nexts d past r [] answers made = record { past = past; reading = r; answers = answers; made = made }
 after_nexts d past r (mode ∷ modes) answers made =
     let p = played d past (next_talk d mode r) in

@@ -16,8 +16,8 @@ use Rattle.inp_reader.specs.declared.next.Next.TheVariants.{Sync, Synced}
 use Rattle.inp_reader.specs.Talk.{Talk}
 use Rattle.inp_reader.specs.Synthesis.{value_at}
 use Rattle.inp_reader.specs.Laws.{AreOfOneDevice}
-use Rattle.inp_reader.specs.Reader.{Reading, start_talk, next_talk}
-use Rattle.inp_reader.specs.Says.{Says}
+use Rattle.inp_reader.specs.Reader.{ReaderState, start_talk, next_talk}
+use Rattle.inp_reader.specs.FollowsTalk.{FollowsTalk}
 
 -- A view as a reader of such devices keeps it: sized for their slots, and with the axes whose values belong to slots at
 -- 0, since nothing sets them.
@@ -35,20 +35,20 @@ KeptViewsAreOfOneDevice =
     (d : Description) (old new : View) → IsKeptView d old → IsKeptView d new → AreOfOneDevice d.slots old new
 
 -- a talk that is held on an evdev of this description, by a reader with such a view, leaves it with such a view
-abbrev pub KeepsTheView : {A : Type 0} → Description → Reading → Talk (A × Reading) → Type 0
+abbrev pub KeepsTheView : {A : Type 0} → Description → ReaderState → Talk (A × ReaderState) → Type 0
 KeepsTheView {A} d r talk =
-    (before after : EvdevView) (old new : List CallMade) (result : A × Reading)
+    (before after : EvdevView) (old new : List CallMade) (result : A × ReaderState)
     → before.description ≡ d
     → IsKeptView d r.view
-    → Says before after old new talk result
+    → FollowsTalk before after old new talk result
     → IsKeptView d result.1.view
 
 -- a start does so, and a `next` in any mode
 abbrev pub StartKeepsTheView : Type 0
-StartKeepsTheView = (d : Description) (r : Reading) → KeepsTheView d r (start_talk d r)
+StartKeepsTheView = (d : Description) (r : ReaderState) → KeepsTheView d r (start_talk d r)
 
 abbrev pub NextKeepsTheView : Type 0
-NextKeepsTheView = (d : Description) (mode : Mode) (r : Reading) → KeepsTheView d r (next_talk d mode r)
+NextKeepsTheView = (d : Description) (mode : Mode) (r : ReaderState) → KeepsTheView d r (next_talk d mode r)
 
 -- Synchronising
 
@@ -59,7 +59,7 @@ synthesised_in _ = []
 
 -- What a `next` hands out, and then what is left, leads from a view to the reader's view. It goes on in phase Handing,
 -- and at Synced nothing is left.
-pub record LeadsOn (view : View) (next : Next) (r : Reading) : Type 0 where
+pub record LeadsOn (view : View) (next : Next) (r : ReaderState) : Type 0 where
   pub leads : view_after_events (view_after_events view (synthesised_in next)) r.left ≡ r.view
   pub goes_on : (event : Event) → next ≡ Sync event → r.phase ≡ Handing
   pub synced : next ≡ Synced → r.left ≡ []
@@ -67,19 +67,19 @@ pub record LeadsOn (view : View) (next : Next) (r : Reading) : Type 0 where
 -- a `next` that synchronises, in Sync mode, leads on from the view that the reader had
 abbrev pub SynchronisesItsView : Type 0
 SynchronisesItsView =
-    (d : Description) (r : Reading) (before after : EvdevView) (old new : List CallMade) (result : Next × Reading)
+    (d : Description) (r : ReaderState) (before after : EvdevView) (old new : List CallMade) (result : Next × ReaderState)
     → before.description ≡ d
     → IsKeptView d r.view
     → r.phase ≡ Needed
-    → Says before after old new (next_talk d Synchronising r) result
+    → FollowsTalk before after old new (next_talk d Synchronising r) result
     → LeadsOn r.view result.0 result.1
 
 -- and each later one in Sync mode from the view that those before it led to
 abbrev pub HandsOutTheRest : Type 0
 HandsOutTheRest =
-    (d : Description) (r : Reading) (view : View) (before after : EvdevView) (old new : List CallMade)
-    (result : Next × Reading)
+    (d : Description) (r : ReaderState) (view : View) (before after : EvdevView) (old new : List CallMade)
+    (result : Next × ReaderState)
     → r.phase ≡ Handing
     → view_after_events view r.left ≡ r.view
-    → Says before after old new (next_talk d Synchronising r) result
+    → FollowsTalk before after old new (next_talk d Synchronising r) result
     → LeadsOn view result.0 result.1

@@ -7,7 +7,7 @@ use Rattle.inp_model.specs.Run.{Call, place_of}
 use Rattle.inp_reader.specs.declared.call_made.CallMade.{CallMade}
 use Rattle.inp_reader.specs.declared.next.Next.{Next}
 use Rattle.inp_reader.specs.declared.next.Next.TheVariants.{Again}
-use Rattle.inp_reader.specs.Says.{calls_kept}
+use Rattle.inp_reader.specs.FollowsTalk.{calls_kept}
 
 -- the places of the calls that were accepted, in order
 abbrev pub accepted_places : List CallMade → List ℕ

@@ -3,7 +3,7 @@ pub mod Synthesis
 pub mod Laws
 pub mod Reader
 pub mod FailedStart
-pub mod Says
+pub mod FollowsTalk
 pub mod LeftEvdev
 pub mod Effort
 pub mod ReaderPlace

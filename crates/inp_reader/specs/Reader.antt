@@ -27,7 +27,7 @@ use Rattle.inp_reader.specs.declared.next.Next.TheVariants.{Success, Dropped, Sy
 use Rattle.inp_reader.specs.Talk.{Talk, finish, ask, and_then}
 use Rattle.inp_reader.specs.Synthesis.{synth}
 
-pub record Reading : Type 0 where
+pub record ReaderState : Type 0 where
   -- the client that it reads as
   pub client : ℕ
   -- the events that it has read and not handed out
@@ -42,12 +42,12 @@ pub record Reading : Type 0 where
 pub record ReaderView : Type 0 where
   -- the description of the devices that it reads
   pub description : Description
-  pub reading : Reading
+  pub reading : ReaderState
   -- the calls of the last `start` or `next`, those answered Again left out
   pub made : List CallMade
 
 -- the next call synchronises first
-abbrev pub with_sync_needed : Reading → Reading
+abbrev pub with_sync_needed : ReaderState → ReaderState
 with_sync_needed r = record r { phase = Needed; left = [] }
 
 -- Queries
@@ -95,19 +95,19 @@ start_stop_of (StepRefused at why) = Refused at why
 start_stop_of _ = Refused 0 BadClient
 
 -- a start on this client, once its queries ended
-abbrev pub after_queries : ℕ → ℕ → Reading → Result View Reply → Started × Reading
+abbrev pub after_queries : ℕ → ℕ → ReaderState → Result View Reply → Started × ReaderState
 after_queries client ring r (Ok view) =
     (StartedOn client ring, record { client = client; queue = []; view = view; phase = Plain; left = [] })
 after_queries client ring r (Err reply) =
     (start_stop_of reply, record { client = client; queue = []; view = r.view; phase = Needed; left = [] })
 
 -- a start, once its Open was answered
-abbrev pub after_open : Description → Reading → Reply → Talk (Started × Reading)
+abbrev pub after_open : Description → ReaderState → Reply → Talk (Started × ReaderState)
 after_open d r (Opened at client ring) = and_then (ask_each (queries d client) r.view) (λ asked. finish (after_queries client ring r asked))
 after_open d r reply = finish (start_stop_of reply, r)
 
 -- opens a client and asks for all that the device has (docs/READER.md, "The reader")
-unfoldable pub start_talk : Description → Reading → Talk (Started × Reading)
+unfoldable pub start_talk : Description → ReaderState → Talk (Started × ReaderState)
 start_talk d r = ask Open (λ answer. after_open d r answer.reply)
 
 -- Reading
@@ -120,27 +120,27 @@ stop_of (StepRefused at LogFull) = Full at
 stop_of _ = Closed
 
 -- hands out an event of the reader's queue, and sets the view by it
-abbrev pub hand_out_event : Reading → Taken → List Taken → Next × Reading
+abbrev pub hand_out_event : ReaderState → Taken → List Taken → Next × ReaderState
 hand_out_event r taken rest =
     let view = view_after_event r.view taken.event in
     if is_dropped taken.event then (Dropped taken, record r { queue = rest; view = view; phase = Needed })
     else (Success taken, record r { queue = rest; view = view })
 
 -- hands out the first event of a queue; a read that was accepted has taken one at least, so an empty queue never comes
-abbrev pub hand_out : Reading → List Taken → Next × Reading
+abbrev pub hand_out : ReaderState → List Taken → Next × ReaderState
 hand_out r [] = (Closed, record r { queue = [] })
 hand_out r (taken ∷ rest) = hand_out_event r taken rest
 
 -- after a read
-abbrev pub after_read : Reading → Answer → Next × Reading
+abbrev pub after_read : ReaderState → Answer → Next × ReaderState
 after_read r answer = if is_accepted answer.reply then hand_out r answer.events else (stop_of answer.reply, r)
 
 -- in phase Plain: reads where the queue is empty, and hands out the first event (docs/READER.md, "The reader")
-abbrev pub read_or_hand_out : Reading → List Taken → Talk (Next × Reading)
+abbrev pub read_or_hand_out : ReaderState → List Taken → Talk (Next × ReaderState)
 read_or_hand_out r [] = ask (Read r.client 64) (λ answer. finish (after_read r answer))
 read_or_hand_out r (taken ∷ rest) = finish (hand_out_event r taken rest)
 
-unfoldable pub read_talk : Reading → Talk (Next × Reading)
+unfoldable pub read_talk : ReaderState → Talk (Next × ReaderState)
 read_talk r = read_or_hand_out r r.queue
 
 -- Handing out in one go what was read
@@ -157,14 +157,14 @@ is_plain_phase Needed = false
 is_plain_phase Handing = false
 
 -- what so many `next` in mode Normal would hand out without a call, one after another
-abbrev pub queued_run : ℕ → Reading → List Taken
+abbrev pub queued_run : ℕ → ReaderState → List Taken
 queued_run most r = if is_plain_phase r.phase then first_run most r.queue else []
 
 abbrev pub has_loss : List Taken → Bool
 has_loss run = list_any (λ (t : Taken). is_dropped t.event) run
 
 -- this run, the first events of the queue, was handed out
-abbrev pub after_run : Reading → List Taken → Reading
+abbrev pub after_run : ReaderState → List Taken → ReaderState
 after_run r run = record r {
   queue = drop (length run) r.queue;
   view = view_after_events r.view (map (λ (t : Taken). t.event) run);
@@ -174,35 +174,35 @@ after_run r run = record r {
 -- Synchronising
 
 -- hands out the next synthesised event, if one is left
-abbrev pub hand_synthesised : Reading → List Event → Next × Reading
+abbrev pub hand_synthesised : ReaderState → List Event → Next × ReaderState
 hand_synthesised r [] = (Synced, record r { phase = Plain; left = [] })
 hand_synthesised r (event ∷ left) = (Sync event, record r { left = left })
 
-abbrev pub handing : Reading → Next × Reading
+abbrev pub handing : ReaderState → Next × ReaderState
 handing r = hand_synthesised r r.left
 
 -- without the synthesised events
-abbrev pub as_plain : Reading → Reading
+abbrev pub as_plain : ReaderState → ReaderState
 as_plain r = record r { phase = Plain; left = [] }
 
 -- after the calls of a synchronisation
-abbrev pub after_full_sync : Reading → View → Reading
+abbrev pub after_full_sync : ReaderState → View → ReaderState
 after_full_sync r view = record r { queue = []; view = view; phase = Handing; left = synth r.view view }
 
-abbrev pub after_failed_sync : Reading → Reading
+abbrev pub after_failed_sync : ReaderState → ReaderState
 after_failed_sync r = record r { queue = []; phase = Needed; left = [] }
 
 -- what a synchronisation leaves
-abbrev pub after_sync : Reading → Result View Reply → Reading
+abbrev pub after_sync : ReaderState → Result View Reply → ReaderState
 after_sync r (Ok view) = after_full_sync r view
 after_sync r (Err reply) = after_failed_sync r
 
 -- removes what is visible to the client, and asks for all that the device has
-unfoldable pub sync_talk : Description → Reading → Talk (Result View Reply)
+unfoldable pub sync_talk : Description → ReaderState → Talk (Result View Reply)
 sync_talk d r = ask_each (Discard r.client ∷ queries d r.client) r.view
 
 -- how a call goes on after a synchronisation: as in phase Handing, unless that was refused
-abbrev pub talk_after_sync : Mode → Reading → Result View Reply → Talk (Next × Reading)
+abbrev pub talk_after_sync : Mode → ReaderState → Result View Reply → Talk (Next × ReaderState)
 talk_after_sync mode r (Err reply) = finish (stop_of reply, after_failed_sync r)
 talk_after_sync Normal r (Ok view) = read_talk (as_plain (after_full_sync r view))
 talk_after_sync Synchronising r (Ok view) = finish (handing (after_full_sync r view))
@@ -213,7 +213,7 @@ talk_after_sync Synchronising r (Ok view) = finish (handing (after_full_sync r v
 --   Plain    hands out an event that it read          asks for nothing and answers Synced
 --   Needed   synchronises, then as in Handing         synchronises, then as in Handing
 --   Handing  drops synthesised events, and reads on   hands out a synthesised event, or answers Synced
-abbrev pub talk_in : Description → Mode → Phase → Reading → Talk (Next × Reading)
+abbrev pub talk_in : Description → Mode → Phase → ReaderState → Talk (Next × ReaderState)
 talk_in d Normal Plain r = read_talk r
 talk_in d Synchronising Plain r = finish (Synced, r)
 talk_in d mode Needed r = and_then (sync_talk d r) (talk_after_sync mode r)
@@ -221,5 +221,5 @@ talk_in d Normal Handing r = read_talk (as_plain r)
 talk_in d Synchronising Handing r = finish (handing r)
 
 -- the next event
-abbrev pub next_talk : Description → Mode → Reading → Talk (Next × Reading)
+abbrev pub next_talk : Description → Mode → ReaderState → Talk (Next × ReaderState)
 next_talk d mode r = talk_in d mode r.phase r

@@ -9,7 +9,7 @@ use Rattle.inp_model.specs.Evdev.{EvdevView, IsCall}
 use Rattle.inp_model.specs.Reply.{Answer, is_accepted, written}
 use Rattle.inp_recon.specs.declared.view.View.{View}
 use Rattle.inp_reader.specs.declared.call_made.CallMade.{CallMade}
-use Rattle.inp_reader.specs.Says.{kept_call}
+use Rattle.inp_reader.specs.FollowsTalk.{kept_call}
 
 -- A call with a buffer of cells: its answer, and what it writes to the buffer.
 pub record MakesCall (before after : EvdevView) (x : Step) (reply : Reply) (cells new_cells : List ℤ) : Type 0 where

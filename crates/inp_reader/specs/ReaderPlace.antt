@@ -20,7 +20,7 @@ use Rattle.inp_reader.specs.declared.phase.Phase.{Phase}
 use Rattle.inp_reader.specs.declared.phase.Phase.TheVariants.{Needed}
 use Rattle.inp_reader.specs.declared.started.Started.{Started}
 use Rattle.inp_reader.specs.declared.started.Started.TheVariants.{Opened}
-use Rattle.inp_reader.specs.Reader.{Reading, ReaderView, queries}
+use Rattle.inp_reader.specs.Reader.{ReaderState, ReaderView, queries}
 use Rattle.inp_reader.specs.LeftEvdev.{accepted_places}
 
 -- What a client did since
@@ -80,7 +80,7 @@ AreReads (call ∷ calls) = (is_read call.step ≡ true) × AreReads calls
 -- Since its client was opened or last removed what was visible, a reader asked for the whole state once, and then read.
 -- It handed out a front part of what it read, and the rest is its queue. Its view is what the answers and the events
 -- that it handed out make of a new view; synthesised events are not among them.
-pub record IsInStep (d : Description) (past : List Step) (r : Reading) : Type 0 where
+pub record IsInStep (d : Description) (past : List Step) (r : ReaderState) : Type 0 where
   pub asked : List Call
   pub reads : List Call
   pub handed : List Taken
@@ -96,7 +96,7 @@ is_needed _ = false
 
 -- A reader stands at the end of a history of accepted steps, which is written newest first. Its client was
 -- opened there, and unless it is to synchronise it is in step.
-pub record StandsAt (d : Description) (past : List Step) (r : Reading) : Type 0 where
+pub record StandsAt (d : Description) (past : List Step) (r : ReaderState) : Type 0 where
   pub history : IsHistory d past
   pub opened : r.client < opens past
   pub in_step : is_needed r.phase ≡ false → IsInStep d past r

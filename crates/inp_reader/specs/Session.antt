@@ -7,7 +7,7 @@ use Rattle.inp_model.specs.Evdev.{EvdevView}
 use Rattle.inp_reader.specs.declared.asker.Asker.{Asker}
 use Rattle.inp_reader.specs.declared.session.Session.{Session}
 use Rattle.inp_reader.specs.declared.reader.Reader.TheInside.{Inside}
-use Rattle.inp_reader.specs.Reader.{Reading, ReaderView}
+use Rattle.inp_reader.specs.Reader.{ReaderState, ReaderView}
 use Rattle.inp_reader.specs.RoomyEvents.{synthesised_most}
 use Rattle.inp_reader.specs.Spare.{HasSpare}
 
@@ -17,7 +17,7 @@ pub record IsReady (d : Description) (told : EvdevView) (a : Asker) : Type 0 whe
   pub view : length a.view.cells ≡ SLOT_VALUES * d.slots
   pub cells : length a.cells ≡ SLOT_VALUES * d.slots
 
-abbrev pub reading_of : Session → Reading
+abbrev pub reading_of : Session → ReaderState
 reading_of s = record { client = s.client; queue = s.queue; view = s.view; phase = s.phase; left = s.left.events }
 
 -- the same of both views of a session, and there is room for all events that it may synthesise

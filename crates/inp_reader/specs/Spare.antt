@@ -10,7 +10,7 @@ use Rattle.inp_model.specs.Description.{Description, has_kind, supports}
 use Rattle.inp_recon.specs.declared.view.View.{View}
 use Rattle.inp_recon.specs.Synchronised.{has_axis}
 use Rattle.inp_recon.specs.View.{key_count, code_count, IsSizedFor}
-use Rattle.inp_reader.specs.Reader.{Reading}
+use Rattle.inp_reader.specs.Reader.{ReaderState}
 
 -- a view in which all that the device cannot have is as in a new one
 pub record IsSpare (d : Description) (v : View) : Type 0 where
@@ -34,6 +34,6 @@ is_event_of d e =
     else supports d e.kind e.code
 
 -- the view of a reader is so, and stays so when its queue is handed out
-pub record HasSpare (d : Description) (r : Reading) : Type 0 where
+pub record HasSpare (d : Description) (r : ReaderState) : Type 0 where
   pub view : IsSpare d r.view
   pub queue : All (λ (t : Taken). is_event_of d t.event ≡ true) r.queue

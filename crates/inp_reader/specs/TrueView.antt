@@ -12,15 +12,15 @@ use Rattle.inp_recon.specs.ClientView.{ReadEntry, read_entries}
 use Rattle.inp_recon.specs.Faithful.{IsReportOf, IsFollowed, IsDeviceState}
 use Rattle.inp_reader.specs.declared.next.Next.{Next}
 use Rattle.inp_reader.specs.declared.next.Next.TheVariants.{Success}
-use Rattle.inp_reader.specs.Reader.{Reading, ReaderView}
+use Rattle.inp_reader.specs.Reader.{ReaderState, ReaderView}
 
 -- which of the events that its client took a reader handed out last: the one before its queue
-abbrev pub index_handed_out : Description → List Step → Reading → ℕ
+abbrev pub index_handed_out : Description → List Step → ReaderState → ℕ
 index_handed_out d past r = length (took d past r.client) - (length r.queue + 1)
 
 -- The event is one that the client took. Where it is the report of a frame up to which the client could
 -- follow the device, the view is the device's state at the frame's end.
-pub record ShowsTheDevice (d : Description) (past : List Step) (r : Reading) (taken : Taken) : Type 0 where
+pub record ShowsTheDevice (d : Description) (past : List Step) (r : ReaderState) (taken : Taken) : Type 0 where
   pub at : ReadEntry
   pub is_at : slice_get (read_entries d past r.client) (index_handed_out d past r) ≡ Some at
   pub is_taken : taken_of at.entry ≡ taken

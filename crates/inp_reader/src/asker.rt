@@ -6,7 +6,7 @@ ghost use Rattle.inp_model.specs.Step.{moment_of};
 ghost use Rattle.inp_model.specs.Reply.{HasRoom};
 ghost use Rattle.inp_reader.specs.ReaderCalls.{Asks, AsksAnAxis, asked_result};
 ghost use Rattle.inp_reader.specs.Reader.{queries, bit_queries, axis_queries, plain_axes, only_if, ask_each, axes_among};
-ghost use Rattle.inp_reader.specs.Says.{Says, kept_call};
+ghost use Rattle.inp_reader.specs.FollowsTalk.{FollowsTalk, kept_call};
 ghost use Rattle.inp_reader.specs.Session.{IsReady};
 
 use crate::cell_buffer::CellBuffer;
@@ -65,7 +65,7 @@ impl Asker {
         requires axis { AsksAnAxis step }
         requires ready { IsReady caps.now (E.told dev.old) self.old }
         requires few { length self.old.made < 64 }
-        ensures says { Says (E.told dev.old) (E.told dev.new) self.old.made self.new.made
+        ensures says { FollowsTalk (E.told dev.old) (E.told dev.new) self.old.made self.new.made
             (ask_each (step ∷ []) self.old.view) (asked_result result self.new.view) }
         ensures ready { IsReady caps.now (E.told dev.new) self.new }
         ensures few { length self.new.made ≤ length self.old.made + 1 }
@@ -91,7 +91,7 @@ impl Asker {
         requires axis { AsksAnAxis step }
         requires ready { IsReady caps.now (E.told dev.old) self.old }
         requires few { length self.old.made < 64 }
-        ensures says { Says (E.told dev.old) (E.told dev.new) self.old.made self.new.made
+        ensures says { FollowsTalk (E.told dev.old) (E.told dev.new) self.old.made self.new.made
             (ask_each (only_if wanted step) self.old.view) (asked_result result self.new.view) }
         ensures ready { IsReady caps.now (E.told dev.new) self.new }
         ensures few { length self.new.made ≤ length self.old.made + 1 }
@@ -117,7 +117,7 @@ impl Asker {
         requires ready { IsReady caps.now (E.told dev.old) self.old }
         requires few { length self.old.made + (end - first) ≤ 64 }
         ensures says { let axes = axes_among caps.now first (end - first) in
-            Says (E.told dev.old) (E.told dev.new) self.old.made self.new.made
+            FollowsTalk (E.told dev.old) (E.told dev.new) self.old.made self.new.made
             (ask_each (axis_queries client axes) self.old.view) (asked_result result self.new.view) }
         ensures ready { IsReady caps.now (E.told dev.new) self.new }
         ensures few { length self.new.made ≤ length self.old.made + (end - first) }
@@ -137,7 +137,7 @@ impl Asker {
         requires ready { IsReady caps.now (E.told dev.old) self.old }
         requires few { length self.old.made + 49 ≤ 64 }
         ensures says { let axes = plain_axes caps.now in
-            Says (E.told dev.old) (E.told dev.new) self.old.made self.new.made
+            FollowsTalk (E.told dev.old) (E.told dev.new) self.old.made self.new.made
             (ask_each (axis_queries client axes) self.old.view) (asked_result result self.new.view) }
         ensures ready { IsReady caps.now (E.told dev.new) self.new }
         ensures few { length self.new.made ≤ length self.old.made + 49 }
@@ -153,7 +153,7 @@ impl Asker {
     fn query_bits<E: Evdev>(&mut self, dev: &mut E, caps: &Caps, client: u32) -> Option<Reply>
         requires ready { IsReady caps.now (E.told dev.old) self.old }
         requires few { length self.old.made + 3 ≤ 64 }
-        ensures says { Says (E.told dev.old) (E.told dev.new) self.old.made self.new.made
+        ensures says { FollowsTalk (E.told dev.old) (E.told dev.new) self.old.made self.new.made
             (ask_each (bit_queries caps.now client) self.old.view)
             (asked_result result self.new.view) }
         ensures ready { IsReady caps.now (E.told dev.new) self.new }
@@ -182,7 +182,7 @@ impl Asker {
     ) -> Option<Reply>
         requires ready { IsReady caps.now (E.told dev.old) self.old }
         requires few { length self.old.made + 53 ≤ 64 }
-        ensures says { Says (E.told dev.old) (E.told dev.new) self.old.made self.new.made
+        ensures says { FollowsTalk (E.told dev.old) (E.told dev.new) self.old.made self.new.made
             (ask_each (queries caps.now client) self.old.view) (asked_result result self.new.view) }
         ensures ready { IsReady caps.now (E.told dev.new) self.new }
         ensures few { length self.new.made ≤ length self.old.made + 53 }
@@ -209,7 +209,7 @@ impl Asker {
         requires ready { IsReady caps.now (E.told dev.old) self.old }
         requires few { length self.old.made + 54 ≤ 64 }
         ensures says { let steps = Discard client ∷ queries caps.now client in
-            Says (E.told dev.old) (E.told dev.new) self.old.made self.new.made
+            FollowsTalk (E.told dev.old) (E.told dev.new) self.old.made self.new.made
             (ask_each steps self.old.view) (asked_result result self.new.view) }
         ensures ready { IsReady caps.now (E.told dev.new) self.new }
         ensures few { length self.new.made ≤ length self.old.made + 54 }

@@ -9,10 +9,10 @@
 //!
 //! Its contract: `specs/Reader.antt` says what `start` and `next` ask of an evdev, one step by the answers before it,
 //! and what they answer and leave (a `Talk`, `specs/Talk.antt`). [`Reader::start`] and [`Reader::next`] promise that
-//! the calls they made are those of that talk, and that the answer and the reader are its result (`Says`,
-//! `specs/Says.antt`). [`Reader::force_sync`] and each accessor say exactly what they do, and so does [`Reader::new`],
-//! unless memory ran out; the view has fourteen values a slot. [`Reader::take_queued`] hands out in one go what the
-//! calls of `next` that make no call would hand out one by one.
+//! the calls they made are those of that talk, and that the answer and the reader are its result (`FollowsTalk`,
+//! `specs/FollowsTalk.antt`). [`Reader::force_sync`] and each accessor say exactly what they do, and so does
+//! [`Reader::new`], unless memory ran out; the view has fourteen values a slot. [`Reader::take_queued`] hands out in
+//! one go what the calls of `next` that make no call would hand out one by one.
 //!
 //! `specs/Synthesis.antt` says which events lead from one view to another. [`laws::synthesis`] states what holds of
 //! them (`specs/Laws.antt`). The old view that takes them over, in order, is the new one. Each of them but a report

@@ -5,7 +5,7 @@ ghost use Rattle.inp_reader.specs.declared.next.Next.TheVariants.{Success};
 ghost use Rattle.inp_model.specs.declared.multi_touch.TheConstants.{SLOT_VALUES};
 ghost use Rattle.inp_recon.specs.View.{first_view};
 ghost use Rattle.inp_reader.specs.declared.phase.Phase.TheVariants.{Plain};
-ghost use Rattle.inp_reader.specs.Says.{Says};
+ghost use Rattle.inp_reader.specs.FollowsTalk.{FollowsTalk};
 ghost use Rattle.inp_reader.specs.LeftEvdev.{LeavesMade, agains_after_next};
 ghost use Rattle.inp_reader.specs.Effort.{effort, IsLess, is_idle};
 ghost use Rattle.inp_reader.specs.ReaderPlace.{Stands, IsAlone, is_needed, has_opened};
@@ -39,7 +39,7 @@ const _: () = prove!(NO_CLIENT == 4_294_967_295);
 /// to the new one.
 ///
 /// Each call is lent the device, which must be of the description that the reader was made for. A contract sees a
-/// reader as its description, what it keeps ([`Reading`](crate)), and the calls that it made last.
+/// reader as its description, what it keeps ([`ReaderState`](crate)), and the calls that it made last.
 #[derive(Drop)]
 pub struct Reader {
     caps: Caps,
@@ -110,7 +110,7 @@ impl Reader {
     /// stood at what was seen before.
     pub fn start<E: Evdev>(&mut self, dev: &mut E) -> Started
         requires description { (E.told dev.old).description ≡ self.old.description }
-        ensures says { Says (E.told dev.old) (E.told dev.new) [] self.new.made
+        ensures says { FollowsTalk (E.told dev.old) (E.told dev.new) [] self.new.made
             (start_talk self.old.description self.old.reading) (result, self.new.reading) }
         ensures reader { self.new.description ≡ self.old.description }
         ensures left { LeavesMade (E.told dev.old) (E.told dev.new) self.new.made }
@@ -168,7 +168,7 @@ impl Reader {
     /// `Synced`.
     pub fn next<E: Evdev>(&mut self, dev: &mut E, mode: Mode) -> Next
         requires description { (E.told dev.old).description ≡ self.old.description }
-        ensures says { Says (E.told dev.old) (E.told dev.new) [] self.new.made
+        ensures says { FollowsTalk (E.told dev.old) (E.told dev.new) [] self.new.made
             (next_talk self.old.description mode self.old.reading) (result, self.new.reading) }
         ensures reader { self.new.description ≡ self.old.description }
         ensures left { LeavesMade (E.told dev.old) (E.told dev.new) self.new.made }

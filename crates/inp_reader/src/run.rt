@@ -1,6 +1,6 @@
 //! The events that a reader hands out in one go.
 ghost use Rattle.std.specs.Prelude.{◌≡◌, ℕ, length, take};
-ghost use Rattle.inp_reader.specs.Reader.{Reading, first_run, has_loss, queued_run};
+ghost use Rattle.inp_reader.specs.Reader.{ReaderState, first_run, has_loss, queued_run};
 
 use crate::stops::is_dropped;
 use inp_model::Taken;
@@ -25,7 +25,7 @@ pub(crate) fn run_len(queue: &[Taken], most: u32) -> usize
 
 // Whether the last event of such a run, the only one that may, tells of a loss.
 pub(crate) fn ends_with_loss(run: &[Taken]) -> bool
-    ensures lost { (most : ℕ) (r : Reading) → run.now ≡ queued_run most r
+    ensures lost { (most : ℕ) (r : ReaderState) → run.now ≡ queued_run most r
         → result ≡ has_loss run.now }
 {
     if run.is_empty() {

@@ -3,7 +3,7 @@ ghost use Rattle.std.specs.Prelude.{◌≡◌, ◌≤◌, ◌<◌, ◌+◌, fals
 ghost use Rattle.inp_reader.specs.declared.phase.Phase.TheVariants.{Needed, Handing};
 ghost use Rattle.inp_reader.specs.ReaderCalls.{asked_result};
 ghost use Rattle.inp_reader.specs.Reader.{ask_each, queries, start_talk, after_queries, queued_run, after_run, read_talk, hand_out, handing, as_plain, after_sync, sync_talk, talk_in, next_talk, with_sync_needed};
-ghost use Rattle.inp_reader.specs.Says.{Says};
+ghost use Rattle.inp_reader.specs.FollowsTalk.{FollowsTalk};
 ghost use Rattle.inp_reader.specs.Session.{reading_of, IsSession};
 ghost use Rattle.inp_reader.specs.Spare.{IsSpare};
 ghost use Rattle.inp_reader.specs.ReaderPlace.{is_needed};
@@ -95,7 +95,7 @@ impl Session {
     fn next_event<E: Evdev>(&mut self, dev: &mut E, caps: &Caps) -> Next
         requires session { IsSession caps.now (E.told dev.old) self.old }
         requires few { length self.old.asker.made < 64 }
-        ensures says { Says (E.told dev.old) (E.told dev.new) self.old.asker.made self.new.asker.made
+        ensures says { FollowsTalk (E.told dev.old) (E.told dev.new) self.old.asker.made self.new.asker.made
             (read_talk (reading_of self.old)) (result, reading_of self.new) }
         ensures session { IsSession caps.now (E.told dev.new) self.new }
         ensures few { length self.new.asker.made ≤ length self.old.asker.made + 1 }
@@ -143,7 +143,7 @@ impl Session {
     fn go_on<E: Evdev>(&mut self, dev: &mut E, caps: &Caps, mode: Mode) -> Next
         requires session { IsSession caps.now (E.told dev.old) self.old }
         requires few { length self.old.asker.made < 64 }
-        ensures says { Says (E.told dev.old) (E.told dev.new) self.old.asker.made self.new.asker.made
+        ensures says { FollowsTalk (E.told dev.old) (E.told dev.new) self.old.asker.made self.new.asker.made
             (talk_in caps.now mode Handing (reading_of self.old)) (result, reading_of self.new) }
         ensures session { IsSession caps.now (E.told dev.new) self.new }
         ensures few { length self.new.asker.made ≤ length self.old.asker.made + 1 }
@@ -174,7 +174,7 @@ impl Session {
         requires session { IsSession caps.now (E.told dev.old) self.old }
         requires spare { IsSpare caps.now self.old.view }
         requires few { length self.old.asker.made + 54 ≤ 64 }
-        ensures says { Says (E.told dev.old) (E.told dev.new) self.old.asker.made self.new.asker.made
+        ensures says { FollowsTalk (E.told dev.old) (E.told dev.new) self.old.asker.made self.new.asker.made
             (sync_talk caps.now (reading_of self.old)) (asked_result result self.new.asker.view) }
         ensures reading { reading_of self.new
             ≡ after_sync (reading_of self.old) (asked_result result self.new.asker.view) }
@@ -200,7 +200,7 @@ impl Session {
         requires session { IsSession caps.now (E.told dev.old) self.old }
         requires spare { IsSpare caps.now self.old.view }
         requires few { length self.old.asker.made + 55 ≤ 64 }
-        ensures says { Says (E.told dev.old) (E.told dev.new) self.old.asker.made self.new.asker.made
+        ensures says { FollowsTalk (E.told dev.old) (E.told dev.new) self.old.asker.made self.new.asker.made
             (talk_in caps.now mode Needed (reading_of self.old)) (result, reading_of self.new) }
         ensures session { IsSession caps.now (E.told dev.new) self.new }
         ensures few { length self.new.asker.made ≤ length self.old.asker.made + 55 }
@@ -216,7 +216,7 @@ impl Session {
         requires session { IsSession caps.now (E.told dev.old) self.old }
         requires spare { IsSpare caps.now self.old.view }
         requires few { length self.old.asker.made + 55 ≤ 64 }
-        ensures says { Says (E.told dev.old) (E.told dev.new) self.old.asker.made self.new.asker.made
+        ensures says { FollowsTalk (E.told dev.old) (E.told dev.new) self.old.asker.made self.new.asker.made
             (next_talk caps.now mode (reading_of self.old)) (result, reading_of self.new) }
         ensures session { IsSession caps.now (E.told dev.new) self.new }
         ensures few { length self.new.asker.made ≤ length self.old.asker.made + 55 }
@@ -235,7 +235,7 @@ impl Session {
     fn begin<E: Evdev>(&mut self, dev: &mut E, caps: &Caps, client: u32, ring: u32) -> Started
         requires session { IsSession caps.now (E.told dev.old) self.old }
         requires few { length self.old.asker.made + 53 ≤ 64 }
-        ensures says { Says (E.told dev.old) (E.told dev.new) self.old.asker.made self.new.asker.made
+        ensures says { FollowsTalk (E.told dev.old) (E.told dev.new) self.old.asker.made self.new.asker.made
             (and_then (ask_each (queries caps.now client) self.old.view)
             (λ asked. finish (after_queries client ring (reading_of self.old) asked)))
             (result, reading_of self.new) }
@@ -263,7 +263,7 @@ impl Session {
     pub(crate) fn start<E: Evdev>(&mut self, dev: &mut E, caps: &Caps) -> Started
         requires session { IsSession caps.now (E.told dev.old) self.old }
         requires few { length self.old.asker.made + 54 ≤ 64 }
-        ensures says { Says (E.told dev.old) (E.told dev.new) self.old.asker.made self.new.asker.made
+        ensures says { FollowsTalk (E.told dev.old) (E.told dev.new) self.old.asker.made self.new.asker.made
             (start_talk caps.now (reading_of self.old)) (result, reading_of self.new) }
         ensures session { IsSession caps.now (E.told dev.new) self.new }
         ensures few { length self.new.asker.made ≤ length self.old.asker.made + 54 }

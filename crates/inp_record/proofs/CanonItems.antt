@@ -21,7 +21,7 @@ use Rattle.inp_record.specs.declared.context.Context.{Context}
 use Rattle.inp_record.specs.Meaning.{item_of_words, behind_words, behind_line, behind_lines}
 use Rattle.inp_record.specs.Spelling.{item_words}
 use Rattle.inp_texts.specs.Line.{lines_of as text_lines}
-use Rattle.inp_record.specs.Past.{Past, after, context_of}
+use Rattle.inp_record.specs.ItemsBefore.{ItemsBefore, after, context_of}
 use Rattle.inp_model.specs.declared.filter.Filter as filter
 use Rattle.inp_model.specs.declared.filter.Filter.TheVariants as filters
 use Rattle.inp_actors.specs.declared.role.Role as role
@@ -150,19 +150,19 @@ same_words others actors (Action actor does) h = rw (← h)
 same_words others actors i h = refl
 
 -- what stands behind these items
-abbrev pub behind_items : List Item → Past → Past
+abbrev pub behind_items : List Item → ItemsBefore → ItemsBefore
 behind_items [] past = past
 behind_items (i ∷ more) past = behind_items more (i ∷ past)
 
 -- items that are entered one by one leave what they leave as a list
-pub context_behind : (items : List Item) (past : Past)
+pub context_behind : (items : List Item) (past : ItemsBefore)
     → context_of (behind_items items past) ≡ after_all items (context_of past)
 context_behind [] past = refl
 context_behind (i ∷ more) past = context_behind more (i ∷ past)
 
 -- an item that is accepted is read and leaves itself
 
-words_behind : (past : Past) (ws : Words) (i : Item) → IsPlainLine ws
+words_behind : (past : ItemsBefore) (ws : Words) (i : Item) → IsPlainLine ws
     → item_of_words (context_of past) ws ≡ Ok i → IsAccepted (context_of past) i
     → behind_words past ws ≡ Ok (i ∷ past)
 words_behind past [] i plain read a = absurd (cc plain.first)
@@ -171,7 +171,7 @@ words_behind past (w ∷ ws) i plain read a =
     let once = checked_once c (item_of_words c (w ∷ ws)) i read a.in_version a.once a.few a.few_slots in
     rw (once, a.fits)
 
-item_behind : (past : Past) (ws : Words) (i : Item) → ws ≡ item_words (context_of past).actors i
+item_behind : (past : ItemsBefore) (ws : Words) (i : Item) → ws ≡ item_words (context_of past).actors i
     → IsAccepted (context_of past) i → behind_line past (line_of ws) ≡ Ok (i ∷ past)
 item_behind past ws i same a =
     let c = context_of past in
@@ -185,7 +185,7 @@ all_plain actors (i ∷ items) c a h =
     let same : item_words c.actors i ≡ item_words actors i = sym (same_words c.actors actors i h.0) in
     (rw same at (item_plain c.actors c.streams i a.0.sayable), all_plain actors items (after i c) a.1 h.1)
 
-lines_behind : (actors : List ActorText) (items : List Item) (past : Past) (n : ℕ)
+lines_behind : (actors : List ActorText) (items : List Item) (past : ItemsBefore) (n : ℕ)
     → AreAccepted (context_of past) items → AreBehindActors actors (context_of past) items
     → behind_lines n (map line_of (map (item_words actors) items) ++ [] ∷ []) past
     ≡ Ok (behind_items items past)
@@ -196,7 +196,7 @@ lines_behind actors (i ∷ items) past n a h =
     (lines_behind actors items (i ∷ past) (suc n) a.1 h.1)
 
 -- lines that say items that are accepted leave these items
-pub items_read : (actors : List ActorText) (items : List Item) (past : Past) (n : ℕ)
+pub items_read : (actors : List ActorText) (items : List Item) (past : ItemsBefore) (n : ℕ)
     → AreAccepted (context_of past) items → AreBehindActors actors (context_of past) items
     → behind_lines n (text_lines (lines_text (map (item_words actors) items))) past
     ≡ Ok (behind_items items past)

@@ -24,7 +24,7 @@ use Rattle.inp_record.specs.Place.{is_first_place, is_out_of_place}
 use Rattle.inp_record.specs.Words.{word, is_header, item_of, plain_item}
 use Rattle.inp_record.specs.Field.{version_word}
 use Rattle.inp_record.specs.Line.{line_row}
-use Rattle.inp_record.specs.Past.{Past, after, context_of}
+use Rattle.inp_record.specs.ItemsBefore.{ItemsBefore, after, context_of}
 use Rattle.inp_record.specs.Meaning.{checked, placed, item_of_words, behind, behind_words, behind_line}
 use Rattle.inp_record.specs.Meaning.{behind_lines, record_of_past, as_record, meaning}
 use Rattle.inp_record.proofs.Inversions.{IsPlaced, checked_is, words_are, or_bad_is, line_means, lines_mean}
@@ -107,7 +107,7 @@ never_both false b h = refl
 
 -- what is read is accepted
 
-words_accepted : (past : Past) (ws : List (List ℕ)) (i : Item) → WereAccepted past → ArePlain ws
+words_accepted : (past : ItemsBefore) (ws : List (List ℕ)) (i : Item) → WereAccepted past → ArePlain ws
     → checked (context_of past) (item_of_words (context_of past) ws) ≡ Ok i → IsAccepted (context_of past) i
 words_accepted past ws i were plain e =
     let c = context_of past in
@@ -128,12 +128,12 @@ words_accepted past ws i were plain e =
     }
 
 -- so many accepted lines at most
-record AreLines (n : ℕ) (past : Past) : Type 0 where
+record AreLines (n : ℕ) (past : ItemsBefore) : Type 0 where
   accepted : WereAccepted past
   few : length past ≤ n
 
 -- one line more, which leaves this past
-module _ (n : ℕ) (past now : Past) (h : AreLines n past) where
+module _ (n : ℕ) (past now : ItemsBefore) (h : AreLines n past) where
   stays : past ≡ now → AreLines (suc n) now
   stays e = rw (← e) (record { accepted = h.accepted; few = omega (arith, h.few) })
 
@@ -156,7 +156,7 @@ module _ (n : ℕ) (past now : Past) (h : AreLines n past) where
     | inr g ↦ words_behind (words_of line) (line_plain line g.0) g.1
   ]
 
-lines_accepted : (lines : List (List ℕ)) (k n : ℕ) (past now : Past) → AreLines n past
+lines_accepted : (lines : List (List ℕ)) (k n : ℕ) (past now : ItemsBefore) → AreLines n past
     → behind_lines k lines past ≡ Ok now → AreLines (n + length lines) now
 unfolding behind_lines
 lines_accepted [] k n past now h e =
@@ -168,7 +168,7 @@ lines_accepted (line ∷ lines) k n past now h e =
     rw count (lines_accepted lines (suc k) (suc n) g.0 now (line_accepted n past g.0 h line g.1) g.2)
 
 -- the lines of a text were accepted, and are no more than its lines
-pub all_accepted : (lines : List (List ℕ)) (past : Past) → behind_lines 1 lines [] ≡ Ok past
+pub all_accepted : (lines : List (List ℕ)) (past : ItemsBefore) → behind_lines 1 lines [] ≡ Ok past
     → WereAccepted past × (length past ≤ length lines)
 all_accepted lines past e =
     let h = lines_accepted lines 1 0 [] past (record { accepted = tt; few = omega arith }) e in
@@ -179,14 +179,14 @@ pub record IsOfPast (r : RecordView) : Type 0 where
   -- what the last accepted line said
   pub newest : Item
   -- what the lines before it said
-  pub past : Past
+  pub past : ItemsBefore
   -- each item was accepted behind those before it
   pub accepted : WereAccepted (newest ∷ past)
   -- the record is the one that these items give
   pub same : record_of_past (newest ∷ past) ≡ r
 
-read_past : (count : ℕ) (o : Result Past Refused) (r : RecordView)
-    → ((past : Past) → o ≡ Ok past → WereAccepted past) → as_record count o ≡ Ok r → IsOfPast r
+read_past : (count : ℕ) (o : Result ItemsBefore Refused) (r : RecordView)
+    → ((past : ItemsBefore) → o ≡ Ok past → WereAccepted past) → as_record count o ≡ Ok r → IsOfPast r
 read_past count (Err refused) r were e = absurd (cc e)
 read_past count (Ok []) r were e = absurd (cc e)
 read_past count (Ok (item ∷ past)) r were e =

@@ -18,8 +18,9 @@ use Rattle.inp_record.specs.declared.item.Item.TheVariants.{Action}
 use Rattle.inp_record.specs.declared.place.Place.{Place}
 use Rattle.inp_record.specs.declared.place.Place.TheVariants.{Describing, Acting}
 use Rattle.inp_record.specs.Place.{is_first_place, is_describing, is_naming, is_acting, is_out_of_place}
-use Rattle.inp_record.specs.Past.{Past, no_given, with_latest, devices_of, first_context, describing, after}
-use Rattle.inp_record.specs.Past.{context_of}
+use Rattle.inp_record.specs.ItemsBefore.{ItemsBefore, no_given, with_latest, devices_of, first_context}
+use Rattle.inp_record.specs.ItemsBefore.{describing, after}
+use Rattle.inp_record.specs.ItemsBefore.{context_of}
 use Rattle.inp_record.specs.Meaning.{has_too_many_slots}
 use Rattle.inp_record.specs.Spelling.{description_items}
 use Rattle.inp_record.proofs.Entries.{code_leaves}
@@ -115,7 +116,7 @@ pub not_first : (i : Item) (c : Context) → is_first_place (after i c).place �
 not_first (Header version) c = refl
 not_first i c = refl
 
-sound : (past : Past) → WereAccepted past → IsSound (context_of past)
+sound : (past : ItemsBefore) → WereAccepted past → IsSound (context_of past)
 sound past were =
     always IsSound (record { first = λ e. refl; gathered = gathered_alone; slots = refl; filters = refl })
     (λ c i a s. record {
@@ -301,7 +302,7 @@ kept_action c actor does k a = record {
 }
 
 -- accepted lines behind a header keep all this
-pub kept : (past : Past) → WereAccepted past → is_first_place (context_of past).place ≡ false
+pub kept : (past : ItemsBefore) → WereAccepted past → is_first_place (context_of past).place ≡ false
     → IsKept (context_of past)
 kept [] h s = absurd (cc s)
 kept (Header version ∷ past) h s =

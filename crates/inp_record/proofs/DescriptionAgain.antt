@@ -28,7 +28,7 @@ use Rattle.inp_record.specs.declared.place.Place.TheVariants.{Describing}
 use Rattle.inp_record.specs.Place.{is_first_place}
 use Rattle.inp_record.specs.declared.context.Context.{Context}
 use Rattle.inp_record.specs.declared.context.Given.{Given}
-use Rattle.inp_record.specs.Past.{no_given, describing, after}
+use Rattle.inp_record.specs.ItemsBefore.{no_given, describing, after}
 use Rattle.inp_record.specs.Meaning.{is_later_command, is_twice, is_too_many, has_too_many_slots}
 use Rattle.inp_record.specs.Meaning.{builder_refusal}
 use Rattle.inp_record.specs.Spelling.{number_items, slots_items, kind_items, code_items, codes_items}

@@ -5,7 +5,7 @@ use Rattle.std.proofs.lemmas.Bool.Decides.{nat_tests}
 use Rattle.inp_model.specs.Description.{Description}
 use Rattle.inp_record.specs.declared.item.Item.TheVariants.{Device, Realtime, Boottime, Code}
 use Rattle.inp_caps.specs.Builder.{with_kind, with_code}
-use Rattle.inp_record.specs.Past.{Past, context_of}
+use Rattle.inp_record.specs.ItemsBefore.{ItemsBefore, context_of}
 use Rattle.inp_caps.specs.declared.caps_refused.CapsRefused.{CapsRefused}
 use Rattle.inp_caps.specs.declared.caps_refused.CapsRefused.TheVariants.{BadCode, BadAxis, BadOffset}
 use Rattle.inp_record.specs.declared.cause.Cause.TheVariants.{Caps}
@@ -27,7 +27,7 @@ code_leaves d kind code =
     (grind (arith, nat_tests), grind (arith, nat_tests), grind (arith, nat_tests), grind (arith, nat_tests))
 
 -- the offsets of the latest description are those that its device gave
-offsets_are : (past : Past)
+offsets_are : (past : ItemsBefore)
     → ((context_of past).builder.realtime ≡ unwrap_or (context_of past).given.realtime 0)
     × ((context_of past).builder.boottime ≡ unwrap_or (context_of past).given.boottime 0)
 offsets_are [] = (refl, refl)
@@ -71,14 +71,16 @@ offset_taken false within done same e = absurd (cc)
 offset_taken both false done same e = absurd (cc same)
 
 -- the builder has the new offset and the one that was given before, as the line leaves it
-pub realtime_entered : (c : Context) (past : Past) (builder : Description) (offset : ℕ) → c ≡ context_of past
+pub realtime_entered : (c : Context) (past : ItemsBefore) (builder : Description) (offset : ℕ)
+    → c ≡ context_of past
     → builder ≡ record c.builder { realtime = offset; boottime = unwrap_or c.given.boottime 0 }
     → record c { place = Describing; builder = builder; given = record c.given { realtime = Some offset } }
     ≡ context_of (Realtime offset ∷ past)
 realtime_entered c past builder offset e h = rw (h, e, ← (offsets_are past).1) refl
 
 -- the builder has the new offset and the one that was given before, as the line leaves it
-pub boottime_entered : (c : Context) (past : Past) (builder : Description) (offset : ℕ) → c ≡ context_of past
+pub boottime_entered : (c : Context) (past : ItemsBefore) (builder : Description) (offset : ℕ)
+    → c ≡ context_of past
     → builder ≡ record c.builder { realtime = unwrap_or c.given.realtime 0; boottime = offset }
     → record c { place = Describing; builder = builder; given = record c.given { boottime = Some offset } }
     ≡ context_of (Boottime offset ∷ past)
@@ -92,7 +94,8 @@ pub checked_once : (c : Context) (means : Result Item Cause) (item : Item) → m
     → checked c means ≡ unless_refused (builder_refusal c.builder item) item
 checked_once c means item e l t m w = rw (e, l, t, m, w) refl
 
-entered : (past : Past) (item : Item) (means : Result Item Cause) (result : Result (Unit {0}) LineFault)
+entered : (past : ItemsBefore) (item : Item) (means : Result Item Cause)
+    (result : Result (Unit {0}) LineFault)
     (now : Context) → means ≡ unless_refused (builder_refusal (context_of past).builder item) item
     → IsLineEntered result past item now → IsBehind result (behind past means) now
 entered past item means (Ok done) now e h = (item ∷ past, rw (e, h.0) refl, h.1)
@@ -100,7 +103,7 @@ entered past item means (Err (line.Refused cause)) now e h = rw (e, h) refl
 entered past item means (Err line.NoMemory) now e h = tt
 
 -- all other tests let the line pass, so it is entered where the builder does not refuse it
-pub entered_behind : (past : Past) (c : Context) (ws : List (List ℕ)) (item : Item)
+pub entered_behind : (past : ItemsBefore) (c : Context) (ws : List (List ℕ)) (item : Item)
     (result : Result (Unit {0}) LineFault) (now : Context)
     → c ≡ context_of past → 1 ≤ length ws → item_of_words c ws ≡ Ok item → is_later_command c item ≡ false
     → is_twice c item ≡ false → is_too_many c item ≡ false → has_too_many_slots c item ≡ false

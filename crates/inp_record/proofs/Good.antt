@@ -31,8 +31,9 @@ use Rattle.inp_record.specs.declared.context.TheConstants.{DEVICES_MAX, SOURCES_
 use Rattle.inp_record.specs.declared.context.TheConstants.{STREAMS_MAX}
 use Rattle.inp_record.specs.declared.place.Place.{Place}
 use Rattle.inp_record.specs.Place.{is_describing, is_naming, is_out_of_place}
-use Rattle.inp_record.specs.Past.{Past, with_latest, devices_of, streams_in, first_context, after, context_of}
-use Rattle.inp_record.specs.Past.{no_given, IsWithinCounts}
+use Rattle.inp_record.specs.ItemsBefore.{ItemsBefore, with_latest, devices_of, streams_in, first_context}
+use Rattle.inp_record.specs.ItemsBefore.{after, context_of}
+use Rattle.inp_record.specs.ItemsBefore.{no_given, IsWithinCounts}
 use Rattle.inp_record.specs.Meaning.{device_count, has_all, behind_lines, record_of_past, closed}
 use Rattle.inp_record.proofs.CanonPasts.{all_accepted}
 use Rattle.inp_record.proofs.Inversions.{row_fits}
@@ -381,11 +382,11 @@ good_first = record {
 }
 
 -- the first context is so, and each accepted line leaves one that is so
-pub good : (past : Past) → WereAccepted past → IsGood (context_of past)
+pub good : (past : ItemsBefore) → WereAccepted past → IsGood (context_of past)
 good past were = always IsGood good_first good_after past were
 
 -- the version of accepted lines is one that there is
-pub version_accepted : (past : Past) → WereAccepted past
+pub version_accepted : (past : ItemsBefore) → WereAccepted past
     → (1 ≤ (context_of past).version) × ((context_of past).version ≤ VERSION_MAX)
 version_accepted past were =
     always (λ c. (1 ≤ c.version) × (c.version ≤ VERSION_MAX)) (omega arith, omega arith) named past were
@@ -396,7 +397,7 @@ version_accepted past were =
     named c i a h = h
 
 -- no more lines than items
-few_lines : (past : Past) → length (context_of past).lines ≤ length past
+few_lines : (past : ItemsBefore) → length (context_of past).lines ≤ length past
 few_lines [] = omega arith
 few_lines (Action actor does ∷ past) =
     omega (
@@ -407,7 +408,7 @@ few_lines (Action actor does ∷ past) =
 few_lines (i ∷ past) = let h = few_lines past in omega (arith, h)
 
 -- what lines mean is a record
-pub IsRecord-read : (lines : List (List ℕ)) (past : Past) → length lines < 2 ^ 32
+pub IsRecord-read : (lines : List (List ℕ)) (past : ItemsBefore) → length lines < 2 ^ 32
     → behind_lines 1 lines [] ≡ Ok past → IsRecord (record_of_past past)
 IsRecord-read lines past h e =
     let c = context_of past in

@@ -23,7 +23,7 @@ use Rattle.inp_record.specs.Place.{is_first_place, is_out_of_place}
 use Rattle.inp_record.specs.Verb.{command_row, is_verb_of, argument_count, verb_of}
 use Rattle.inp_record.specs.Words.{word, is_header, is_action, command_of, actor_from, action_of, action_by}
 use Rattle.inp_record.specs.Words.{action_with, action_item, plain_item, or_bad_word, item_of}
-use Rattle.inp_record.specs.Past.{Past, streams_in}
+use Rattle.inp_record.specs.ItemsBefore.{ItemsBefore, streams_in}
 use Rattle.inp_record.specs.Meaning.{is_later_command, is_twice, is_too_many, has_too_many_slots}
 use Rattle.inp_record.specs.Meaning.{builder_refusal, unless_refused, checked, placed, item_of_words}
 use Rattle.inp_record.specs.Meaning.{behind_words, behind_line, then_lines, behind_lines}
@@ -176,7 +176,7 @@ read_as actors s k ws i e = elim (chosen (is_action k) _ _ (Ok i) e) [
 ]
 
 -- a line that was read is a comment, or words
-pub line_means : (past now : Past) (line : List ℕ) → behind_line past line ≡ Ok now
+pub line_means : (past now : ItemsBefore) (line : List ℕ) → behind_line past line ≡ Ok now
     → ((is_comment line ≡ true) × (past ≡ now))
     ⊎ ((is_text line ≡ true) × (behind_words past (words_of line) ≡ Ok now))
 unfolding behind_line
@@ -188,13 +188,14 @@ line_means past now line e = elim (chosen (is_comment line) _ _ (Ok now) e) [
 ]
 
 -- one line of those that were read, and the others behind it
-pub lines_mean : (k : ℕ) (line : List ℕ) (lines : List (List ℕ)) (past now : Past)
+pub lines_mean : (k : ℕ) (line : List ℕ) (lines : List (List ℕ)) (past now : ItemsBefore)
     → behind_lines k (line ∷ lines) past ≡ Ok now
-    → (mid : Past) × (behind_line past line ≡ Ok mid) × (behind_lines (suc k) lines mid ≡ Ok now)
+    → (mid : ItemsBefore) × (behind_line past line ≡ Ok mid) × (behind_lines (suc k) lines mid ≡ Ok now)
 unfolding behind_lines
 lines_mean k line lines past now e = by_line (behind_line past line) e
   where
-    by_line : (means : Result Past Cause) → then_lines k means (λ x. behind_lines (suc k) lines x) ≡ Ok now
-        → (mid : Past) × (means ≡ Ok mid) × (behind_lines (suc k) lines mid ≡ Ok now)
+    by_line : (means : Result ItemsBefore Cause)
+    → then_lines k means (λ x. behind_lines (suc k) lines x) ≡ Ok now
+        → (mid : ItemsBefore) × (means ≡ Ok mid) × (behind_lines (suc k) lines mid ≡ Ok now)
     by_line (Err cause) e = absurd (cc e)
     by_line (Ok mid) e = (mid, refl, e)

@@ -18,7 +18,7 @@ use Rattle.std.proofs.lemmas.List.Splits.{length-slice_split}
 use Rattle.std.proofs.lemmas.List.Sums.{count_by-le-length}
 use Rattle.inp_texts.specs.Line.{is_line_feed, lines_behind, lines_of}
 use Rattle.inp_record.specs.Fault.{fault_at, IsParsing}
-use Rattle.inp_record.specs.Past.{Past, context_of}
+use Rattle.inp_record.specs.ItemsBefore.{ItemsBefore, context_of}
 use Rattle.inp_record.specs.Meaning.{behind_line, then_lines, behind_lines, record_of_past, as_record}
 use Rattle.inp_record.specs.Meaning.{meaning, IsBehind, AreLinesRead}
 
@@ -87,7 +87,7 @@ pub counted_more : (all left more : List (List ℕ)) (n : ℕ) (x : List ℕ) �
 counted_more all left more n x d e = omega (arith, ap length d)
 
 -- one line more
-pub read_more : (all left more : List (List ℕ)) (n : ℕ) (past : Past) (x : List ℕ) → left ≡ x ∷ more
+pub read_more : (all left more : List (List ℕ)) (n : ℕ) (past : ItemsBefore) (x : List ℕ) → left ≡ x ∷ more
     → behind_lines 1 all [] ≡ behind_lines (n + 1) left past
     → behind_lines 1 all [] ≡ then_lines (n + 1) (behind_line past x)
     (λ now. behind_lines (suc (n + 1)) more now)
@@ -95,15 +95,16 @@ unfolding behind_lines
 read_more all left more n past x d e = rw (e, d)
 
 -- a line that was read
-pub more_read : (all more : List (List ℕ)) (n : ℕ) (means : Result Past Cause) (done : Unit {0})
+pub more_read : (all more : List (List ℕ)) (n : ℕ) (means : Result ItemsBefore Cause) (done : Unit {0})
     (now : Context)
     → behind_lines 1 all [] ≡ then_lines (n + 1) means (λ now. behind_lines (suc (n + 1)) more now)
     → IsBehind (Ok done) means now
-    → (past : Past) × (now ≡ context_of past) × (behind_lines 1 all [] ≡ behind_lines (n + 1 + 1) more past)
+    → (past : ItemsBefore) × (now ≡ context_of past)
+    × (behind_lines 1 all [] ≡ behind_lines (n + 1 + 1) more past)
 more_read all more n means done now e h = (h.0, h.2, rw (rw h.1 at e, ← add-one))
 
 -- a line that was not read
-pub fault_read : (all more : List (List ℕ)) (n : ℕ) (means : Result Past Cause) (f : LineFault)
+pub fault_read : (all more : List (List ℕ)) (n : ℕ) (means : Result ItemsBefore Cause) (f : LineFault)
     (now : Context)
     → behind_lines 1 all [] ≡ then_lines (n + 1) means (λ now. behind_lines (suc (n + 1)) more now)
     → IsBehind (Err f) means now
@@ -113,8 +114,10 @@ fault_read all more n means line.NoMemory now e h = tt
 
 -- all lines were read
 pub all_read : (all : List (List ℕ)) (n : ℕ) (context : Context) → n + length {A = List ℕ} [] ≡ length all
-    → (past : Past) × (context ≡ context_of past) × (behind_lines 1 all [] ≡ behind_lines (n + 1) [] past)
-    → (past : Past) × (behind_lines 1 all [] ≡ Ok past) × (context ≡ context_of past) × (n ≡ length all)
+    → (past : ItemsBefore) × (context ≡ context_of past)
+    × (behind_lines 1 all [] ≡ behind_lines (n + 1) [] past)
+    → (past : ItemsBefore) × (behind_lines 1 all [] ≡ Ok past) × (context ≡ context_of past)
+    × (n ≡ length all)
 unfolding behind_lines
 all_read all n context counted h = (h.0, h.2, h.1, omega (arith, counted))
 
@@ -126,24 +129,24 @@ fault_parsed text (fault.Refused refused) h = ap (as_record (length (lines_of te
 fault_parsed text fault.NoMemory h = tt
 
 -- all lines were read, so the meaning is the record of what they left
-pub meaning_read : (text : List ℕ) (past : Past) → behind_lines 1 (lines_of text) [] ≡ Ok past
+pub meaning_read : (text : List ℕ) (past : ItemsBefore) → behind_lines 1 (lines_of text) [] ≡ Ok past
     → meaning text ≡ as_record (length (lines_of text)) (Ok past)
 unfolding meaning
 meaning_read text past h = ap (as_record (length (lines_of text))) h
 
 -- nothing was read before the first line alone
-pub start_is : (past : Past) → (context_of past).place ≡ Start → past ≡ []
+pub start_is : (past : ItemsBefore) → (context_of past).place ≡ Start → past ≡ []
 start_is [] e = refl
 start_is (Header version ∷ past) e = absurd (cc)
 start_is (i ∷ past) e = absurd (cc)
 
 -- nothing was read, so there is no header
-pub headless : (past : Past) (n : ℕ) → (context_of past).place ≡ Start
+pub headless : (past : ItemsBefore) (n : ℕ) → (context_of past).place ≡ Start
     → as_record n (Ok past) ≡ Err (record { line = n; cause = BadHeader })
 headless past n e = rw (start_is past e)
 
 -- something was read, and the record is made of it
-pub headed : (past : Past) (n : ℕ) → ((context_of past).place ≡ Start → ⊥)
+pub headed : (past : ItemsBefore) (n : ℕ) → ((context_of past).place ≡ Start → ⊥)
     → as_record n (Ok past) ≡ Ok (record_of_past past)
 headed [] n h = absurd (h refl)
 headed (item ∷ past) n h = refl

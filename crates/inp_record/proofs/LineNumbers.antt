@@ -16,7 +16,7 @@ use Rattle.inp_record.specs.declared.item.Item as item
 use Rattle.inp_record.specs.declared.item.Item.TheVariants.{Action}
 use Rattle.inp_record.specs.declared.keyword.Keyword as keyword
 use Rattle.inp_record.specs.Words.{word, has_word, is_action, item_of}
-use Rattle.inp_record.specs.Past.{Past, after, context_of}
+use Rattle.inp_record.specs.ItemsBefore.{ItemsBefore, after, context_of}
 use Rattle.inp_record.specs.Meaning.{checked, item_of_words, behind, behind_words, behind_line, behind_lines}
 use Rattle.inp_record.specs.Meaning.{record_of_past, as_record, meaning}
 use Rattle.inp_record.specs.LineNumber.{is_action_line, action_numbers}
@@ -69,7 +69,7 @@ not_missed all lines n line left h z e =
 -- how many action lines there are
 
 -- the second past has so many action lines more than the first
-abbrev Adds : Past → Past → ℕ → Type 0
+abbrev Adds : ItemsBefore → ItemsBefore → ℕ → Type 0
 Adds past now n = length (context_of now).lines ≡ length (context_of past).lines + n
 
 -- an item adds a line exactly where its keyword is that of an action
@@ -109,7 +109,7 @@ comment_does_nothing (b ∷ line) h = elim (chosen (is_blank b) (is_comment line
 ]
 
 -- a line between two pasts
-module _ (past now : Past) where
+module _ (past now : ItemsBefore) where
   behind_adds : (means : Result item.Item Cause) (does : Bool)
       → ((i : item.Item) → means ≡ Ok i → is_action (keyword_for i) ≡ does) → behind past means ≡ Ok now
       → Adds past now (if does then 1 else 0)
@@ -134,7 +134,7 @@ module _ (past now : Past) where
     | inr h ↦ all_words_add (words_of line) h.1
   ]
 
-lines_add : (lines : List (List ℕ)) (k n : ℕ) (past now : Past) → behind_lines k lines past ≡ Ok now
+lines_add : (lines : List (List ℕ)) (k n : ℕ) (past now : ItemsBefore) → behind_lines k lines past ≡ Ok now
     → Adds past now (length (action_numbers n lines))
 unfolding behind_lines action_numbers
 lines_add [] k n past now e = let same : past ≡ now = cc e in rw (← same) (omega arith)
@@ -152,8 +152,8 @@ lines_add (line ∷ lines) k n past now e =
     by_action true xs = omega arith
     by_action false xs = omega arith
 
-record_adds : (count : ℕ) (means : Result Past Refused) (r : RecordView) → as_record count means ≡ Ok r
-    → (past : Past) × (means ≡ Ok past) × (record_of_past past ≡ r)
+record_adds : (count : ℕ) (means : Result ItemsBefore Refused) (r : RecordView) → as_record count means ≡ Ok r
+    → (past : ItemsBefore) × (means ≡ Ok past) × (record_of_past past ≡ r)
 record_adds count (Err refused) r e = absurd (cc e)
 record_adds count (Ok []) r e = absurd (cc e)
 record_adds count (Ok (i ∷ past)) r e = (i ∷ past, refl, cc e)

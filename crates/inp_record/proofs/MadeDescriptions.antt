@@ -26,7 +26,7 @@ use Rattle.inp_record.specs.declared.item.Item.{Item}
 use Rattle.inp_record.specs.declared.item.Item.TheVariants.{Device, Hint, Log, Realtime, Boottime, Slots}
 use Rattle.inp_record.specs.declared.item.Item.TheVariants.{Kind, Code, Axis, Filter}
 use Rattle.inp_record.specs.declared.context.Context.{Context}
-use Rattle.inp_record.specs.Past.{after}
+use Rattle.inp_record.specs.ItemsBefore.{after}
 use Rattle.inp_record.specs.Meaning.{refused_by, builder_refusal}
 use Rattle.inp_record.proofs.Sayable.{IsSayableInfo, IsAccepted}
 

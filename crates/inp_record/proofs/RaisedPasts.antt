@@ -6,7 +6,7 @@ use Rattle.inp_record.specs.declared.context.Context.{Context}
 use Rattle.inp_record.specs.declared.item.Item.{Item}
 use Rattle.inp_record.specs.declared.item.Item.TheVariants.{Header, Slots, Action}
 use Rattle.inp_record.specs.Place.{is_first_place}
-use Rattle.inp_record.specs.Past.{Past, after, context_of}
+use Rattle.inp_record.specs.ItemsBefore.{ItemsBefore, after, context_of}
 use Rattle.inp_record.specs.Meaning.{record_of_past, meaning}
 use Rattle.inp_record.proofs.Sayable.{accepted, is_later_item, IsAccepted, WereAccepted}
 use Rattle.inp_record.proofs.CanonPasts.{never_both, meaning_of_past}
@@ -19,7 +19,7 @@ raised_item (Header version) = Header 2
 raised_item i = i
 
 -- the same lines, with version 2 in their header
-abbrev raised : Past → Past
+abbrev raised : ItemsBefore → ItemsBefore
 raised [] = []
 raised (i ∷ past) = raised_item i ∷ raised past
 
@@ -38,13 +38,13 @@ version_alike (Header version) c = refl
 version_alike i c = refl
 
 -- but for the version the raised lines leave what the lines leave
-same_context : (past : Past)
+same_context : (past : ItemsBefore)
     → context_of (raised past) ≡ record (context_of past) { version = (context_of (raised past)).version }
 same_context [] = refl
 same_context (i ∷ past) = rw (same_context past, after_alike, version_alike)
 
 -- behind their header the raised lines have version 2
-raised_version : (past : Past) → WereAccepted past → is_first_place (context_of past).place ≡ false
+raised_version : (past : ItemsBefore) → WereAccepted past → is_first_place (context_of past).place ≡ false
     → (context_of (raised past)).version ≡ 2
 raised_version [] were s = absurd (cc s)
 raised_version (Header version ∷ past) were s = refl
@@ -64,7 +64,7 @@ accepted_alike c v i two a =
     (never_both (is_later_item i) (nat_eq v 1) (λ _. rw (two (a.headed refl)) refl)) refl a.once
     a.few refl a.fits
 
-raised_accepted : (past : Past) → WereAccepted past → WereAccepted (raised past)
+raised_accepted : (past : ItemsBefore) → WereAccepted past → WereAccepted (raised past)
 raised_accepted [] were = tt
 raised_accepted (i ∷ past) were = (
   rw (same_context past)
@@ -77,7 +77,7 @@ raised_accepted (i ∷ past) were = (
 abbrev with_version_2 : RecordView → RecordView
 with_version_2 r = record r { version = 2 }
 
-raised_record : (past : Past) → (context_of (raised past)).version ≡ 2
+raised_record : (past : ItemsBefore) → (context_of (raised past)).version ≡ 2
     → record_of_past (raised past) ≡ with_version_2 (record_of_past past)
 raised_record past two = rw (same_context, two)
 
@@ -86,7 +86,7 @@ pub reads_again : (bytes : List ℕ) (r : RecordView) → meaning bytes ≡ Ok r
     → meaning (record_text (record r { version = 2 })) ≡ Ok (record r { version = 2 })
 reads_again bytes r e =
     let p = meaning_of_past bytes r e in
-    let past : Past = p.newest ∷ p.past in
+    let past : ItemsBefore = p.newest ∷ p.past in
     let same =
     raised_record past (raised_version past p.accepted (not_first p.newest (context_of p.past)))
     ∙ ap with_version_2 p.same in

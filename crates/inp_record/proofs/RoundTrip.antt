@@ -18,7 +18,8 @@ use Rattle.inp_record.specs.declared.item.Item.{Item}
 use Rattle.inp_record.specs.declared.item.Item.TheVariants.{Header, Actor}
 use Rattle.inp_record.specs.declared.place.Place.TheVariants.{Start}
 use Rattle.inp_record.specs.Place.{is_first_place}
-use Rattle.inp_record.specs.Past.{Past, with_latest, devices_of, first_context, after, context_of}
+use Rattle.inp_record.specs.ItemsBefore.{ItemsBefore, with_latest, devices_of, first_context, after}
+use Rattle.inp_record.specs.ItemsBefore.{context_of}
 use Rattle.inp_record.specs.Meaning.{behind_lines, record_of_past, record_of_context, meaning}
 use Rattle.inp_record.specs.Spelling.{item_words, description_items, actor_items, device_items}
 use Rattle.inp_record.specs.Spelling.{action_item_of, RoundTrips}
@@ -120,7 +121,7 @@ record_of_settled x = record {
 }
 
 -- the canonical lines say items that are accepted and leave the same, as far as a record has it
-pub read_again : (past : Past) → WereAccepted past → is_first_place (context_of past).place ≡ false
+pub read_again : (past : ItemsBefore) → WereAccepted past → is_first_place (context_of past).place ≡ false
     → meaning (record_text (record_of_past past)) ≡ Ok (record_of_past past)
 read_again past were s =
     let c = context_of past in

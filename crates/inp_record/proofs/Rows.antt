@@ -11,7 +11,7 @@ use Rattle.inp_record.specs.canon.Device.{fuzz_words, info_words}
 use Rattle.inp_record.specs.canon.Command.{command_words}
 use Rattle.inp_texts.specs.Table.{named}
 use Rattle.inp_record.specs.Field.{made}
-use Rattle.inp_record.specs.Past.{streams_in}
+use Rattle.inp_record.specs.ItemsBefore.{streams_in}
 use Rattle.inp_record.specs.Verb.{Row, command_row, verb_row, verb_rows, is_verb_of, argument_count}
 use Rattle.inp_record.specs.Verb.{count_max, verbs, with_arguments, verb_of, is_stream}
 use Rattle.inp_record.specs.declared.verb.Verb.{Verb}

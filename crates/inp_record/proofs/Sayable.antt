@@ -18,7 +18,7 @@ use Rattle.inp_record.specs.declared.item.Item.TheVariants.{Header, Device, Hint
 use Rattle.inp_record.specs.declared.item.Item.TheVariants.{Slots, Kind, Code, Axis, Filter, Actor, Action}
 use Rattle.inp_record.specs.declared.keyword.Keyword as keyword
 use Rattle.inp_record.specs.declared.keyword.Keyword.TheVariants as keywords
-use Rattle.inp_record.specs.Past.{Past, first_context, after, context_of}
+use Rattle.inp_record.specs.ItemsBefore.{ItemsBefore, first_context, after, context_of}
 use Rattle.inp_record.specs.declared.context.Context.{Context}
 use Rattle.inp_record.specs.declared.place.Place.{Place}
 use Rattle.inp_record.specs.Place.{is_first_place, is_describing, is_out_of_place}
@@ -196,14 +196,14 @@ AreAccepted c [] = Unit {0}
 AreAccepted c (i ∷ more) = IsAccepted c i × AreAccepted (after i c) more
 
 -- the items of a past were accepted one after another, the newest last
-abbrev pub WereAccepted : Past → Type 0
+abbrev pub WereAccepted : ItemsBefore → Type 0
 WereAccepted [] = Unit {0}
 WereAccepted (i ∷ past) = IsAccepted (context_of past) i × WereAccepted past
 
 -- what holds before the first line, and with each accepted line goes on to hold, holds behind accepted lines
 pub always : (P : Context → Type 0) → P first_context
-    → ((c : Context) (i : Item) → IsAccepted c i → P c → P (after i c)) → (past : Past) → WereAccepted past
-    → P (context_of past)
+    → ((c : Context) (i : Item) → IsAccepted c i → P c → P (after i c)) → (past : ItemsBefore)
+    → WereAccepted past → P (context_of past)
 always P start step [] were = start
 always P start step (i ∷ past) were = step (context_of past) i were.0 (always P start step past were.1)
 

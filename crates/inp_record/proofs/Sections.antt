@@ -7,7 +7,7 @@ use Rattle.std.proofs.lemmas.List.{ext_get_or}
 use Rattle.std.proofs.lemmas.List.Folds.{list_all-append}
 use Rattle.inp_record.specs.declared.item.Item.{Item}
 use Rattle.inp_record.specs.declared.context.Context.{Context}
-use Rattle.inp_record.specs.Past.{after}
+use Rattle.inp_record.specs.ItemsBefore.{after}
 use Rattle.inp_record.proofs.Sayable.{IsAccepted, after_all, AreAccepted}
 
 -- two lists of items

@@ -15,7 +15,7 @@ use Rattle.inp_stream.specs.Examples.{press as press_event, press_record, press_
 use Rattle.inp_texts.specs.Texts.{text_of_lines}
 use Rattle.inp_record.specs.declared.cause.Cause.{Cause}
 use Rattle.inp_record.specs.declared.cause.Cause.TheVariants.{NotText, BadHeader, BadLine, OutOfPlace, NoActor, BadCommand, BadWord, Twice, TooMany, Caps}
-use Rattle.inp_record.specs.Past.{streams_in}
+use Rattle.inp_record.specs.ItemsBefore.{streams_in}
 use Rattle.inp_record.specs.Meaning.{meaning}
 use Rattle.inp_record.specs.Stream.{stamps_of_command}
 

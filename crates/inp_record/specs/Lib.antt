@@ -7,7 +7,7 @@ pub mod Line
 pub mod Verb
 pub mod Place
 pub mod Words
-pub mod Past
+pub mod ItemsBefore
 pub mod Meaning
 pub mod Examples
 pub mod Stream

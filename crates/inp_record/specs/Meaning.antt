@@ -27,7 +27,7 @@ use Rattle.inp_record.specs.declared.item.Item.TheVariants.{Device, Hint, Log, R
 use Rattle.inp_record.specs.Keyword.{keyword_of}
 use Rattle.inp_record.specs.Place.{is_first_place, is_out_of_place}
 use Rattle.inp_record.specs.Words.{word, is_header, item_of}
-use Rattle.inp_record.specs.Past.{Past, streams_in, is_later, devices_of, context_of}
+use Rattle.inp_record.specs.ItemsBefore.{ItemsBefore, streams_in, is_later, devices_of, context_of}
 
 -- the text is there and is this one
 abbrev pub is_text_of : List ℕ → Option (List ℕ) → Bool
@@ -133,29 +133,29 @@ item_of_words c ws =
     else placed c (keyword_of c.version (word 0 ws) (word 1 ws) (length ws)) ws
 
 -- the past after a line of this meaning
-abbrev pub behind : Past → Result Item Cause → Result Past Cause
+abbrev pub behind : ItemsBefore → Result Item Cause → Result ItemsBefore Cause
 behind past (Err cause) = Err cause
 behind past (Ok item) = Ok (item ∷ past)
 
 -- the past after a line of these words; a blank line means nothing
-abbrev pub behind_words : Past → List (List ℕ) → Result Past Cause
+abbrev pub behind_words : ItemsBefore → List (List ℕ) → Result ItemsBefore Cause
 behind_words past [] = Ok past
 behind_words past (w ∷ ws) = behind past (checked (context_of past) (item_of_words (context_of past) (w ∷ ws)))
 
 -- the past after a line; a comment means nothing
-unfoldable pub behind_line : Past → List ℕ → Result Past Cause
+unfoldable pub behind_line : ItemsBefore → List ℕ → Result ItemsBefore Cause
 behind_line past line =
     if is_comment line then Ok past
     else if not (is_text line) then Err NotText
     else behind_words past (words_of line)
 
 -- the result of a line with the number n, and then of those after it
-abbrev pub then_lines : ℕ → Result Past Cause → (Past → Result Past Refused) → Result Past Refused
+abbrev pub then_lines : ℕ → Result ItemsBefore Cause → (ItemsBefore → Result ItemsBefore Refused) → Result ItemsBefore Refused
 then_lines n (Ok past) more = more past
 then_lines n (Err cause) more = Err (record { line = n; cause = cause })
 
 -- the past after all lines, of which the first has the number n, or the first line that has no meaning
-unfoldable pub behind_lines : ℕ → List (List ℕ) → Past → Result Past Refused
+unfoldable pub behind_lines : ℕ → List (List ℕ) → ItemsBefore → Result ItemsBefore Refused
 behind_lines n [] past = Ok past
 behind_lines n (line ∷ lines) past = then_lines n (behind_line past line) (λ now. behind_lines (suc n) lines now)
 
@@ -175,11 +175,11 @@ record_of_context c = record {
 }
 
 -- the record of a past
-abbrev pub record_of_past : Past → RecordView
+abbrev pub record_of_past : ItemsBefore → RecordView
 record_of_past past = record_of_context (context_of past)
 
 -- the record of what so many lines mean; without a header the last one is refused
-abbrev pub as_record : ℕ → Result Past Refused → Result RecordView Refused
+abbrev pub as_record : ℕ → Result ItemsBefore Refused → Result RecordView Refused
 as_record count (Err refused) = Err refused
 as_record count (Ok []) = Err (record { line = count; cause = BadHeader })
 as_record count (Ok (item ∷ past)) = Ok (record_of_past (item ∷ past))
@@ -189,15 +189,15 @@ unfoldable pub meaning : List ℕ → Result RecordView Refused
 meaning bytes = as_record (length (text_lines bytes)) (behind_lines 1 (text_lines bytes) [])
 
 -- what a line leaves, where it is entered into what was before it, unless memory ran out
-abbrev pub IsLineEntered : Result (Unit {0}) LineFault → Past → Item → Context → Type 0
+abbrev pub IsLineEntered : Result (Unit {0}) LineFault → ItemsBefore → Item → Context → Type 0
 IsLineEntered (Ok done) past item now = (builder_refusal (context_of past).builder item ≡ None) × (now ≡ context_of (item ∷ past))
 IsLineEntered (Err (line.Refused cause)) past item now =
     unless_refused (builder_refusal (context_of past).builder item) item ≡ Err cause
 IsLineEntered (Err line.NoMemory) past item now = Unit {0}
 
 -- what a line leaves after these lines, unless memory ran out
-abbrev pub IsBehind : Result (Unit {0}) LineFault → Result Past Cause → Context → Type 0
-IsBehind (Ok done) means now = (past : Past) × (means ≡ Ok past) × (now ≡ context_of past)
+abbrev pub IsBehind : Result (Unit {0}) LineFault → Result ItemsBefore Cause → Context → Type 0
+IsBehind (Ok done) means now = (past : ItemsBefore) × (means ≡ Ok past) × (now ≡ context_of past)
 IsBehind (Err (line.Refused cause)) means now = means ≡ Err cause
 IsBehind (Err line.NoMemory) means now = Unit {0}
 
@@ -205,6 +205,6 @@ IsBehind (Err line.NoMemory) means now = Unit {0}
 -- memory ran out
 abbrev pub AreLinesRead : Result (Context × ℕ) ParseFault → List (List ℕ) → Type 0
 AreLinesRead (Ok read) lines =
-    (past : Past) × (behind_lines 1 lines [] ≡ Ok past) × (read.0 ≡ context_of past) × (read.1 ≡ length lines)
+    (past : ItemsBefore) × (behind_lines 1 lines [] ≡ Ok past) × (read.0 ≡ context_of past) × (read.1 ≡ length lines)
 AreLinesRead (Err (fault.Refused refused)) lines = behind_lines 1 lines [] ≡ Err refused
 AreLinesRead (Err fault.NoMemory) lines = Unit {0}

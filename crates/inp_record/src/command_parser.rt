@@ -8,7 +8,7 @@ ghost use Rattle.inp_texts.specs.Number.{number};
 ghost use Rattle.inp_record.specs.Fault.{IsReading};
 ghost use Rattle.inp_record.specs.declared.verb.Verb.TheVariants.{Event, Write, Mask, Clock, SetAxis};
 ghost use Rattle.inp_record.specs.Field.{field_word, Positive};
-ghost use Rattle.inp_record.specs.Past.{is_later, streams_in};
+ghost use Rattle.inp_record.specs.ItemsBefore.{is_later, streams_in};
 ghost use Rattle.inp_record.specs.Verb.{argument_count, count_max, is_stream};
 ghost use Rattle.inp_codes.specs.ByNumber.{texts};
 ghost use Rattle.inp_record.specs.Words.{command_of, actor_from, action_item};

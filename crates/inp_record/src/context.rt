@@ -3,7 +3,7 @@ ghost use Rattle.std.specs.Prelude.{◌≡◌, ◌+◌, ◌<◌, ◌≤◌, [], 
 ghost use Rattle.std.specs.List.{list_any};
 ghost use Rattle.std.specs.Str.{bytes_eq};
 ghost use Rattle.inp_actors.specs.Record.{IsRecord};
-ghost use Rattle.inp_record.specs.Past.{Past, context_of, no_given, IsWithinCounts, streams_in, is_later};
+ghost use Rattle.inp_record.specs.ItemsBefore.{ItemsBefore, context_of, no_given, IsWithinCounts, streams_in, is_later};
 ghost use Rattle.inp_record.specs.Meaning.{is_twice, is_too_many, is_later_command, has_too_many_slots, is_text_of, has_device, has_all, device_count, IsLineEntered, closed, record_of_context};
 ghost use Rattle.inp_caps.specs.Builder.{with_filter, filter_answer};
 ghost use Rattle.inp_record.specs.Words.{has_micros};
@@ -122,7 +122,7 @@ impl Context {
         requires room { IsWithinCounts self.old }
         requires enough { is_too_many self.old item ≡ false }
         requires micros { has_micros item ≡ true }
-        ensures entered { (past : Past) → self.old ≡ context_of past
+        ensures entered { (past : ItemsBefore) → self.old ≡ context_of past
             → IsLineEntered result past item self.new }
         ensures actors { OnOk result (length self.new.actors ≤ length self.old.actors + 1) }
         ensures room { OnOk result (IsWithinCounts self.new) }
@@ -145,7 +145,7 @@ impl Context {
     }
 
     fn begin(&mut self, version: u32) -> Result<(), LineFault>
-        ensures entered { (past : Past) → self.old ≡ context_of past
+        ensures entered { (past : ItemsBefore) → self.old ≡ context_of past
             → IsLineEntered result past (items.Header version) self.new }
         ensures room { OnOk result (IsWithinCounts self.old → IsWithinCounts self.new) }
         ensures actors { OnOk result (self.new.actors ≡ self.old.actors) }
@@ -156,7 +156,7 @@ impl Context {
     }
 
     fn set_hint(&mut self, count: u32) -> Result<(), LineFault>
-        ensures entered { (past : Past) → self.old ≡ context_of past
+        ensures entered { (past : ItemsBefore) → self.old ≡ context_of past
             → IsLineEntered result past (items.Hint count) self.new }
         ensures room { OnOk result (IsWithinCounts self.old → IsWithinCounts self.new) }
         ensures actors { OnOk result (self.new.actors ≡ self.old.actors) }
@@ -170,7 +170,7 @@ impl Context {
     }
 
     fn set_log(&mut self, count: u32) -> Result<(), LineFault>
-        ensures entered { (past : Past) → self.old ≡ context_of past
+        ensures entered { (past : ItemsBefore) → self.old ≡ context_of past
             → IsLineEntered result past (items.Log count) self.new }
         ensures room { OnOk result (IsWithinCounts self.old → IsWithinCounts self.new) }
         ensures actors { OnOk result (self.new.actors ≡ self.old.actors) }
@@ -184,7 +184,7 @@ impl Context {
     }
 
     fn set_slots(&mut self, count: u32) -> Result<(), LineFault>
-        ensures entered { (past : Past) → self.old ≡ context_of past
+        ensures entered { (past : ItemsBefore) → self.old ≡ context_of past
             → IsLineEntered result past (items.Slots count) self.new }
         ensures room { OnOk result (IsWithinCounts self.old → IsWithinCounts self.new) }
         ensures actors { OnOk result (self.new.actors ≡ self.old.actors) }
@@ -198,7 +198,7 @@ impl Context {
     }
 
     fn add_kind(&mut self, kind: u16) -> Result<(), LineFault>
-        ensures entered { (past : Past) → self.old ≡ context_of past
+        ensures entered { (past : ItemsBefore) → self.old ≡ context_of past
             → IsLineEntered result past (items.Kind kind) self.new }
         ensures room { OnOk result (IsWithinCounts self.old → IsWithinCounts self.new) }
         ensures actors { OnOk result (self.new.actors ≡ self.old.actors) }
@@ -211,7 +211,7 @@ impl Context {
     }
 
     fn add_code(&mut self, kind: u16, code: u16) -> Result<(), LineFault>
-        ensures entered { (past : Past) → self.old ≡ context_of past
+        ensures entered { (past : ItemsBefore) → self.old ≡ context_of past
             → IsLineEntered result past (items.Code kind code) self.new }
         ensures room { OnOk result (IsWithinCounts self.old → IsWithinCounts self.new) }
         ensures actors { OnOk result (self.new.actors ≡ self.old.actors) }
@@ -225,7 +225,7 @@ impl Context {
 
     fn set_realtime(&mut self, offset: u64) -> Result<(), LineFault>
         requires { IsWithinCounts self.old }
-        ensures entered { (past : Past) → self.old ≡ context_of past
+        ensures entered { (past : ItemsBefore) → self.old ≡ context_of past
             → IsLineEntered result past (items.Realtime offset) self.new }
         ensures room { OnOk result (IsWithinCounts self.old → IsWithinCounts self.new) }
         ensures actors { OnOk result (self.new.actors ≡ self.old.actors) }
@@ -241,7 +241,7 @@ impl Context {
 
     fn set_boottime(&mut self, offset: u64) -> Result<(), LineFault>
         requires { IsWithinCounts self.old }
-        ensures entered { (past : Past) → self.old ≡ context_of past
+        ensures entered { (past : ItemsBefore) → self.old ≡ context_of past
             → IsLineEntered result past (items.Boottime offset) self.new }
         ensures room { OnOk result (IsWithinCounts self.old → IsWithinCounts self.new) }
         ensures actors { OnOk result (self.new.actors ≡ self.old.actors) }
@@ -256,7 +256,7 @@ impl Context {
     }
 
     fn add_axis(&mut self, code: u16, info: AxisInfo) -> Result<(), LineFault>
-        ensures entered { (past : Past) → self.old ≡ context_of past
+        ensures entered { (past : ItemsBefore) → self.old ≡ context_of past
             → IsLineEntered result past (items.Axis code info) self.new }
         ensures room { OnOk result (IsWithinCounts self.old → IsWithinCounts self.new) }
         ensures actors { OnOk result (self.new.actors ≡ self.old.actors) }
@@ -273,7 +273,7 @@ impl Context {
 
     fn add_filter(&mut self, filter: Filter) -> Result<(), LineFault>
         requires { has_micros (items.Filter filter) ≡ true }
-        ensures entered { (past : Past) → self.old ≡ context_of past
+        ensures entered { (past : ItemsBefore) → self.old ≡ context_of past
             → IsLineEntered result past (items.Filter filter) self.new }
         ensures room { OnOk result (IsWithinCounts self.old → IsWithinCounts self.new) }
         ensures actors { OnOk result (self.new.actors ≡ self.old.actors) }
@@ -304,7 +304,7 @@ impl Context {
     fn add_device(&mut self, alloc: Global, requested: bool, name: Name) -> Result<(), LineFault>
         requires room { IsWithinCounts self.old }
         requires enough { is_too_many self.old (items.Device requested name) ≡ false }
-        ensures entered { (past : Past) → self.old ≡ context_of past
+        ensures entered { (past : ItemsBefore) → self.old ≡ context_of past
             → IsLineEntered result past (items.Device requested name) self.new }
         ensures actors { OnOk result (self.new.actors ≡ self.old.actors) }
         ensures room { OnOk result (IsWithinCounts self.new) }
@@ -326,7 +326,7 @@ impl Context {
     fn add_actor(&mut self, role: Role, name: Name) -> Result<(), LineFault>
         requires room { IsWithinCounts self.old }
         requires enough { is_too_many self.old (items.Actor role name) ≡ false }
-        ensures entered { (past : Past) → self.old ≡ context_of past
+        ensures entered { (past : ItemsBefore) → self.old ≡ context_of past
             → IsLineEntered result past (items.Actor role name) self.new }
         ensures actors { OnOk result (length self.new.actors ≤ length self.old.actors + 1) }
         ensures room { OnOk result (IsWithinCounts self.new) }
@@ -352,7 +352,7 @@ impl Context {
     pub(crate) fn add_line(&mut self, actor: u32, command: Command) -> Result<(), LineFault>
         requires room { IsWithinCounts self.old }
         requires enough { is_too_many self.old (items.Action actor command) ≡ false }
-        ensures entered { (past : Past) → self.old ≡ context_of past
+        ensures entered { (past : ItemsBefore) → self.old ≡ context_of past
             → IsLineEntered result past (items.Action actor command) self.new }
         ensures actors { OnOk result (self.new.actors ≡ self.old.actors) }
         ensures room { OnOk result (IsWithinCounts self.new) }

@@ -7,7 +7,7 @@ ghost use Rattle.inp_record.specs.Keyword.{has_words, keyword_of};
 ghost use Rattle.inp_codes.specs.ByNumber.{texts};
 ghost use Rattle.inp_record.specs.declared.verb.Verb.TheVariants as verbs;
 ghost use Rattle.inp_record.specs.Words.{word, action_of, command_of, item_of};
-ghost use Rattle.inp_record.specs.Past.{Past, context_of, IsWithinCounts};
+ghost use Rattle.inp_record.specs.ItemsBefore.{ItemsBefore, context_of, IsWithinCounts};
 ghost use Rattle.inp_record.specs.Meaning.{item_of_words, behind_words, behind_line, IsBehind};
 
 use crate::Cause;
@@ -124,7 +124,7 @@ fn read_event(context: &mut Context, source: u32, words: &[&[u8]]) -> Result<(),
     requires words { length words.now ≡ 7 }
     requires item { item_of_words context.old (texts words.now)
         ≡ action_of source (command_of 0 roles.Source verbs.Event (texts words.now)) }
-    ensures behind { (past : Past) → context.old ≡ context_of past
+    ensures behind { (past : ItemsBefore) → context.old ≡ context_of past
         → IsBehind result (behind_words past (texts words.now)) context.new }
     ensures room { OnOk result (IsWithinCounts context.new) }
     ensures actors { OnOk result (context.new.actors ≡ context.old.actors) }
@@ -142,7 +142,7 @@ fn read_item(context: &mut Context, alloc: Global, words: &[&[u8]]) -> Result<()
     requires room { IsWithinCounts context.old }
     requires actors { length context.old.actors + 1 < 2 ^ 32 }
     requires text { AreText (texts words.now) }
-    ensures behind { (past : Past) → context.old ≡ context_of past
+    ensures behind { (past : ItemsBefore) → context.old ≡ context_of past
         → IsBehind result (behind_words past (texts words.now)) context.new }
     ensures room { OnOk result (IsWithinCounts context.new) }
     ensures actors { OnOk result
@@ -169,7 +169,7 @@ fn read_words(context: &mut Context, alloc: Global, words: &[&[u8]]) -> Result<(
     requires room { IsWithinCounts context.old }
     requires actors { length context.old.actors + 1 < 2 ^ 32 }
     requires text { AreText (texts words.now) }
-    ensures behind { (past : Past) → context.old ≡ context_of past
+    ensures behind { (past : ItemsBefore) → context.old ≡ context_of past
         → IsBehind result (behind_words past (texts words.now)) context.new }
     ensures room { OnOk result (IsWithinCounts context.new) }
     ensures actors { OnOk result
@@ -197,7 +197,7 @@ pub(crate) fn read_line<'a>(
     requires front { take (length line.now) text.now ≡ line.now }
     requires room { IsWithinCounts context.old }
     requires actors { length context.old.actors + 1 < 2 ^ 32 }
-    ensures behind { (past : Past) → context.old ≡ context_of past
+    ensures behind { (past : ItemsBefore) → context.old ≡ context_of past
         → IsBehind result (behind_line past line.now) context.new }
     ensures room { OnOk result (IsWithinCounts context.new) }
     ensures actors { OnOk result

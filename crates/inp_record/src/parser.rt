@@ -3,7 +3,7 @@ ghost use Rattle.std.specs.Prelude.{◌≡◌, ◌<◌, ◌≤◌, ◌^◌, [], 
 ghost use Rattle.inp_texts.specs.Line.{lines_of};
 ghost use Rattle.inp_record.specs.Fault.{IsParsing};
 ghost use Rattle.inp_actors.specs.Record.{IsRecord};
-ghost use Rattle.inp_record.specs.Past.{Past, context_of};
+ghost use Rattle.inp_record.specs.ItemsBefore.{ItemsBefore, context_of};
 ghost use Rattle.inp_record.specs.Meaning.{meaning, as_record, record_of_context, AreLinesRead};
 
 use crate::context::Context;
@@ -66,7 +66,7 @@ pub fn parse(alloc: Global, text: &[u8]) -> Result<Record, ParseFault>
 /// The record of what so many lines left, unless they have no header.
 fn into_record(alloc: Global, context: Context, line: u32) -> Result<Record, ParseFault>
     requires record { IsRecord (record_of_context context) }
-    ensures { (past : Past) → context ≡ context_of past
+    ensures { (past : ItemsBefore) → context ≡ context_of past
         → IsParsing result (as_record line (Ok past)) }
 {
     if context.place == Place::Start {

@@ -38,7 +38,7 @@ pub use Rattle.inp_recon.specs.View.{IsSizedFor}
 pub use Rattle.inp_recon.specs.declared.view.View.{View}
 pub use Rattle.inp_reader.proofs.Calls.{finished, split-and_then}
 pub use Rattle.inp_reader.proofs.Meets.{Any, Listed, Meets, listed-run, meets-ends, meets-then}
-pub use Rattle.inp_reader.specs.Reader.{Reading, next_talk, queries, start_talk, stop_of}
+pub use Rattle.inp_reader.specs.Reader.{ReaderState, next_talk, queries, start_talk, stop_of}
 pub use Rattle.inp_reader.specs.ReaderPlace.{is_read, is_use, is_use_of}
 pub use Rattle.inp_reader.specs.Talk.{EndsWith, Talk, and_then, ask, finish}
 pub use Rattle.inp_reader.specs.declared.mode.Mode.{Mode}
@@ -53,7 +53,7 @@ pub use Rattle.inp_script.specs.Job.{ActorView, Job, JobView, JoyJobView, OwnerV
 pub use Rattle.inp_script.specs.Legal.{is_call_entry, sight_of_calls}
 pub use Rattle.inp_script.specs.Line.{after_call, end_talk, source_talk, step_of, tap_call_if}
 pub use Rattle.inp_script.specs.Line.{tap_client_after, tap_talk}
-pub use Rattle.inp_script.specs.Owner.{Owning}
+pub use Rattle.inp_script.specs.Owner.{OwnerState}
 pub use Rattle.inp_script.specs.Sight.{again_sight, call_sight, noted, taken_sight}
 pub use Rattle.inp_script.specs.declared.sight.Sight.{Sight}
 pub use Rattle.inp_script.specs.declared.sight.Sight.TheVariants.{Took}

@@ -93,7 +93,7 @@ fn do_some<D: Evdev + Feeds>(
     let mut events = [NO_STAMPED; LINES_MAX];
     let count = gather(rec, &lines[from..], number, &mut events);
     if count < 2 {
-        actor.act(dev, rec, lines[from], wait)?;
+        actor.do_line(dev, rec, lines[from], wait)?;
         return Ok(1);
     }
     actor.inject_all(dev, &events[..count])?;

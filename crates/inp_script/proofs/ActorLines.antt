@@ -11,7 +11,7 @@ use Rattle.inp_actors.specs.declared.command.Command.TheVariants.{Feedback}
 use Rattle.inp_script.specs.declared.role.state.RoleState.TheVariants.{Owner}
 use Rattle.inp_script.specs.declared.role.owner.Owner as owner
 use Rattle.inp_script.specs.ActorLine.{Acts, BeginsToAct}
-use Rattle.inp_script.specs.Owner.{Owning, FeedsLine, MayHaveFed}
+use Rattle.inp_script.specs.Owner.{OwnerState, FeedsLine, MayHaveFed}
 
 -- each command of an owner is a feedback call
 owner-room : (command : Command) → is_command_of OwnerRole command ≡ true
@@ -34,7 +34,7 @@ module _ {S : Type 0} (told : S → EvdevView) (feeds : Feeding S) (before after
     its-room = owner-room line.command (rw owner at command.of_role)
 
     -- an owner's command is a feedback call, and the call was made
-    pub owns-done : (new : ActorView) (was : Owning) → was ≡ old.owning
+    pub owns-done : (new : ActorView) (was : OwnerState) → was ≡ old.owning
         → new ≡ record old { owning = new.owning }
         → ((room : ℕ) → feedback_room line.command ≡ Some room
         → FeedsLine feeds before after (min room FEEDBACK_MAX) was new.owning)

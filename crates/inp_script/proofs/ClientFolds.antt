@@ -5,7 +5,7 @@ use Rattle.std.proofs.lemmas.Bool.{cond_both}
 use Rattle.inp_model.specs.declared.reply.Reply.TheVariants.{Opened}
 use Rattle.inp_reader.specs.declared.next.Next.TheVariants.{Sync}
 use Rattle.inp_script.proofs.Common.{Step, Reply, Description, is_again, past_at, Answer, IsAnswer, Call}
-use Rattle.inp_script.proofs.Common.{place_of, View, Mode, Next, Started, Reading, start_talk, stop_of}
+use Rattle.inp_script.proofs.Common.{place_of, View, Mode, Next, Started, ReaderState, start_talk, stop_of}
 use Rattle.inp_script.proofs.Common.{next_talk, EndsWith, Sight, call_sight, Success, Dropped}
 use Rattle.inp_model.specs.declared.step.Step.TheVariants.{Open, Read, Discard}
 use Rattle.inp_recon.proofs.Each.{Each}
@@ -36,7 +36,7 @@ stop_adds_none : (reply : Reply) → entries_of_next (stop_of reply) ≡ []
 stop_adds_none reply =
     stop-cases (λ next. entries_of_next next ≡ []) reply (λ at ends is. refl) refl refl (λ at. refl)
 
-abbrev IsSettled : Folding → Reading → Type 0
+abbrev IsSettled : Folding → ReaderState → Type 0
 IsSettled f r = f ≡ settled r.view
 
 module _ (d : Description) where
@@ -124,12 +124,12 @@ module _ (d : Description) where
     not_opened v reply other = refl
 
     -- a start's queries set the view by their answers, and the fold takes the same answers
-    pub start-folds : (r s : Reading) (started : Started) (calls : List Call) → ArePlaced d h calls
+    pub start-folds : (r s : ReaderState) (started : Started) (calls : List Call) → ArePlaced d h calls
         → EndsWith (start_talk d r) calls (started, s)
         → client_fold d h (settled r.view) (noted_sight calls) ≡ settled s.view
     start-folds r s started calls placed ends =
         let f : Folding = settled r.view in
-        let Q : Folding → Started × Reading → Type 0 = λ g o. g ≡ settled o.1.view in
+        let Q : Folding → Started × ReaderState → Type 0 = λ g o. g ≡ settled o.1.view in
         meets-ends Any FoldedBy Q f _ _ calls (started, s)
         (start-meets Any FoldedBy Q d r f (record {
           asks_open = tt;
@@ -140,10 +140,10 @@ module _ (d : Description) where
           refused = λ g a by other. once f g f Open a refl refl by ∙ not_opened r.view a.reply other;
         })) (placed-run f calls placed) ends
 
-    abbrev Folds : Folding → Next × Reading → Type 0
+    abbrev Folds : Folding → Next × ReaderState → Type 0
     Folds f o = client_fold d h f (entries_of_next o.0) ≡ settled o.1.view
 
-    folds-stopped : (f : Folding) (r : Reading) (reply : Reply) → f ≡ settled r.view
+    folds-stopped : (f : Folding) (r : ReaderState) (reply : Reply) → f ≡ settled r.view
         → Folds f (stop_of reply, r)
     folds-stopped f r reply is = rw (stop_adds_none, nothing_more) is
 
@@ -181,12 +181,12 @@ module _ (d : Description) where
       goes_on = λ f r is handing e. is;
     }
       where
-        after_read : (f g : Folding) (r : Reading) (a : Answer) → f ≡ settled r.view
+        after_read : (f g : Folding) (r : ReaderState) (a : Answer) → f ≡ settled r.view
             → FoldedBy f (Read r.client 64) a g → g ≡ settled r.view
         after_read f g r a is by = rw (by.1, is) (read_once r.view r.client 64 a.reply)
 
     -- an event that is read and a synchronisation change the view as their entries change the fold
-    pub next-folds : (mode : Mode) (r s : Reading) (next : Next) (calls : List Call) → ArePlaced d h calls
+    pub next-folds : (mode : Mode) (r s : ReaderState) (next : Next) (calls : List Call) → ArePlaced d h calls
         → EndsWith (next_talk d mode r) calls (next, s)
         → client_fold d h (settled r.view) (noted_sight calls ++ entries_of_next next) ≡ settled s.view
     next-folds mode r s next calls placed ends =

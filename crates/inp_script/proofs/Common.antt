@@ -26,7 +26,7 @@ pub use Rattle.inp_feedback.specs.declared.fed.TheConstants.{FEEDBACK_MAX}
 pub use Rattle.inp_feedback.specs.declared.u_entry.UEntry.{UEntry}
 pub use Rattle.inp_recon.specs.declared.view.View.{View}
 unfoldable pub use Rattle.inp_reader.specs.Effort.{effort}
-pub use Rattle.inp_reader.specs.Reader.{Reading, next_talk, start_talk, stop_of}
+pub use Rattle.inp_reader.specs.Reader.{ReaderState, next_talk, start_talk, stop_of}
 pub use Rattle.inp_reader.specs.Talk.{EndsWith, Talk, and_then, ask, finish}
 unfoldable pub use Rattle.inp_reader.specs.Talk.{LeadsTo, talk_with}
 pub use Rattle.inp_reader.specs.declared.call_made.CallMade.{CallMade}
@@ -37,11 +37,11 @@ pub use Rattle.inp_reader.specs.declared.phase.Phase.{Phase}
 pub use Rattle.inp_reader.specs.declared.phase.Phase.TheVariants.{Plain}
 pub use Rattle.inp_reader.specs.declared.reader.TheConstants.{NO_CLIENT}
 pub use Rattle.inp_reader.specs.declared.started.Started.{Started}
-pub use Rattle.inp_joy.specs.Joy.{JoyAnswer, Joying}
+pub use Rattle.inp_joy.specs.Joy.{JoyAnswer, JoystickState}
 unfoldable pub use Rattle.inp_joy.specs.Joy.{joy_start, turns}
 pub use Rattle.inp_joy.specs.declared.joy_read.JoyRead.{JoyRead}
 pub use Rattle.inp_joy.specs.declared.joy_record.JoyRecord.{JoyRecord}
-pub use Rattle.inp_script.specs.Client.{Going, after_next, mode_of, turn_after, with_sight}
+pub use Rattle.inp_script.specs.Client.{LineProgress, after_next, mode_of, turn_after, with_sight}
 unfoldable pub use Rattle.inp_script.specs.Client.{next_round, start_job}
 pub use Rattle.inp_script.specs.DoneLine.{Begins, BeginsLine, DoesLine, HasActor, Holds}
 pub use Rattle.inp_script.specs.DoneLine.{IsCommandFor, command_talk, inject_talk, unless_stopped}

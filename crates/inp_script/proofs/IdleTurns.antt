@@ -7,9 +7,11 @@ use Rattle.inp_model.specs.Evdev.{agains_after}
 use Rattle.inp_reader.specs.Reader.{after_failed_sync}
 use Rattle.inp_script.specs.Legal.{CountsTurns}
 use Rattle.inp_script.proofs.Common.{Stamped, Step, Reply, Description, Call, Command, Role, Next, Started}
-use Rattle.inp_script.proofs.Common.{EndsWith, Sight, Stop, Waiting, Going, turn_after, after_next, mode_of}
+use Rattle.inp_script.proofs.Common.{EndsWith, Sight, Stop, Waiting, LineProgress, turn_after, after_next}
+use Rattle.inp_script.proofs.Common.{mode_of}
 use Rattle.inp_script.proofs.Common.{Job, ActorView, stop_after, stop_after_start, RecordView, Answer, View}
-use Rattle.inp_script.proofs.Common.{Mode, joystick_talk, EvdevView, is_again, Reading, stop_of, start_talk}
+use Rattle.inp_script.proofs.Common.{Mode, joystick_talk, EvdevView, is_again, ReaderState, stop_of}
+use Rattle.inp_script.proofs.Common.{start_talk}
 use Rattle.inp_script.proofs.Common.{next_talk, AreCalls, DoesLine, line_talk}
 use Rattle.inp_reader.specs.declared.next.Next.TheVariants.{Again}
 use Rattle.inp_script.specs.declared.stop.Stop.TheVariants.{Idle, Full as FullHistory}
@@ -86,7 +88,7 @@ abbrev IdlesOf : ℕ → Job → Type 0
 IdlesOf n j = Idles n j.stop
 
 -- in the midst of a line those that came last, one after another, are counted too
-abbrev IdlesGoing : ℕ → Going → Type 0
+abbrev IdlesGoing : ℕ → LineProgress → Type 0
 IdlesGoing n g = (g.agains ≤ n) × IdlesOf n g.job
 
 idles-turn : (n before : ℕ) (wait : Option Waiting) (left : Option ℕ) (next : Next) (j : Job) → IdlesOf n j
@@ -108,13 +110,13 @@ idles-turn n before wait left next j i one =
 
 -- A `next`: the count does not fall, and it rises where that answers Again.
 
-abbrev HasCounted : ℕ → ℕ × List Sight → Reading → Type 0
+abbrev HasCounted : ℕ → ℕ × List Sight → ReaderState → Type 0
 HasCounted n u r = n ≤ u.0
 
-abbrev HasRisen : ℕ → ℕ × List Sight → Next × Reading → Type 0
+abbrev HasRisen : ℕ → ℕ × List Sight → Next × ReaderState → Type 0
 HasRisen n u o = (n ≤ u.0) × ((at ends : ℕ) → o.0 ≡ Again at ends → suc n ≤ u.0)
 
-risen-stop : (n : ℕ) (u v : ℕ × List Sight) (x : Step) (a : Answer) (r : Reading) → n ≤ u.0
+risen-stop : (n : ℕ) (u v : ℕ × List Sight) (x : Step) (a : Answer) (r : ReaderState) → n ≤ u.0
     → NotedBy AgainBy u x a v → HasRisen n v (stop_of a.reply, r)
 risen-stop n u v x a r h by = (
   omega (arith, h, by.0),
@@ -158,14 +160,15 @@ idles-line d role command wait = record {
   starts = λ e s j i.
       start_job-meets AgainBy IdlesOf d s j
       (meets-always (NotedBy AgainBy)
-      (λ (u : ℕ × List Sight) (o : Started × Reading). IdlesOf u.0 (job_after_start o.0 o.1 u.1)) (s, j.sight)
+      (λ (u : ℕ × List Sight) (o : Started × ReaderState). IdlesOf u.0 (job_after_start o.0 o.1 u.1))
+      (s, j.sight)
       (start_talk d j.reading) (λ u o. not_idle u.0 (stop_after_start o.0) (started-not_idle o.0)));
   begins = λ e s j left i. (omega arith, i);
   rounds = λ e s waits skips g none i.
       let mode : Mode = mode_of skips g.job.reading.phase in
       round-meets AgainBy IdlesOf IdlesGoing d s waits skips g
       (meets-weaker Any (NotedBy AgainBy) (HasRisen s)
-      (λ (u : ℕ × List Sight) (o : Next × Reading).
+      (λ (u : ℕ × List Sight) (o : Next × ReaderState).
       OfTurn IdlesOf IdlesGoing u.0 (after_next waits g (o, u.1))) (s, g.job.sight)
       (next_talk d mode g.job.reading)
       (next-meets Any (NotedBy AgainBy) (HasCounted s) (HasRisen s) d mode (risen-rules s d mode)

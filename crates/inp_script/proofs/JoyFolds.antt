@@ -8,7 +8,7 @@ use Rattle.inp_script.proofs.Common.{Taken, Step, Reply, Description, is_again, 
 use Rattle.inp_script.proofs.Common.{Call, place_of, Command, Joy, is_command_of, JoyRead, JoyRecord, View}
 use Rattle.inp_script.proofs.Common.{Next, Success, Dropped, Started, Talk, finish, EndsWith, Sight}
 use Rattle.inp_script.proofs.Common.{with_sight, Job, joying_of, after_call, step_of, call_sight, again_sight}
-use Rattle.inp_script.proofs.Common.{taken_sight, Reading, start_talk, stop_of as reader_stop, next_talk}
+use Rattle.inp_script.proofs.Common.{taken_sight, ReaderState, start_talk, stop_of as reader_stop, next_talk}
 use Rattle.inp_script.proofs.Common.{is_report, start_joystick, record_sight, after_joy_answer, joystick_talk}
 use Rattle.inp_model.specs.declared.step.Step.TheVariants.{Open as ToOpen, Read as ToRead, Discard}
 use Rattle.inp_model.specs.declared.step.Step.TheVariants.{Close as ToClose}
@@ -17,7 +17,7 @@ use Rattle.inp_model.specs.declared.reply.Reply.TheVariants.{Refused as StepRefu
 use Rattle.inp_actors.specs.declared.command.Command.TheVariants.{Close}
 use Rattle.inp_joy.specs.declared.joy_read.JoyRead.TheVariants.{Again}
 use Rattle.inp_joy.specs.JoyRecord.{bytes_of_record}
-use Rattle.inp_joy.specs.Joy.{Joying, JoyAnswer, JoyTurn, gives, goes_on, joy_read_of, record_or_on}
+use Rattle.inp_joy.specs.Joy.{JoystickState, JoyAnswer, JoyTurn, gives, goes_on, joy_read_of, record_or_on}
 use Rattle.inp_joy.specs.Joy.{stop_or_on, joying_after_next, turn_talk, turns, with_reading, with_startup}
 use Rattle.inp_joy.specs.Joy.{joying_after_start, joy_started, joy_start}
 use Rattle.inp_joy.specs.Picture.{PictureView, blank_picture, picture_after}
@@ -72,7 +72,7 @@ stopped-picture : (p : PictureView) (stop : Option JoyRead) → IsStopped stop �
 stopped-picture p None h = absurd h
 stopped-picture p (Some read) h = refl
 
-abbrev Syncs : PictureView → Showing → Next × Reading → Type 0
+abbrev Syncs : PictureView → Showing → Next × ReaderState → Type 0
 Syncs p s o = s ≡ shown (synced_picture p (joy_read_of o.0))
 
 -- Turns
@@ -82,11 +82,11 @@ abbrev out_of : JoyTurn → Option JoyRecord
 out_of (gives answer) = answer.record_out
 out_of (goes_on j) = None
 
-abbrev joying_after : JoyTurn → Joying
+abbrev joying_after : JoyTurn → JoystickState
 joying_after (gives answer) = answer.joying
 joying_after (goes_on j) = j
 
-abbrev IsStill : PictureView → Showing → Reading → Type 0
+abbrev IsStill : PictureView → Showing → ReaderState → Type 0
 IsStill p s r = (s ≡ shown p) × (is_needed r.phase ≡ false)
 
 module _ (d : Description) where
@@ -104,14 +104,14 @@ module _ (d : Description) where
   -- A start
 
   -- a start that was refused leaves the picture
-  refused-picture : (j : Joying) (r : Reading) (reply : Reply)
+  refused-picture : (j : JoystickState) (r : ReaderState) (reply : Reply)
       → (joying_after_start d (with_reading j r) (start_stop_of reply)).picture ≡ j.picture
   refused-picture j r (StepRefused at why) =
-      cond_both (is_needed r.phase) _ _ (λ (x : Joying). x.picture ≡ j.picture) (λ _. refl) (λ _. refl)
+      cond_both (is_needed r.phase) _ _ (λ (x : JoystickState). x.picture ≡ j.picture) (λ _. refl) (λ _. refl)
   refused-picture j r _ =
-      cond_both (is_needed r.phase) _ _ (λ (x : Joying). x.picture ≡ j.picture) (λ _. refl) (λ _. refl)
+      cond_both (is_needed r.phase) _ _ (λ (x : JoystickState). x.picture ≡ j.picture) (λ _. refl) (λ _. refl)
 
-  asked-picture : (j : Joying) (client ring : ℕ) (result : Result View Reply)
+  asked-picture : (j : JoystickState) (client ring : ℕ) (result : Result View Reply)
       → (joy_started d j (after_queries client ring j.reading result)).1.picture
       ≡ asked_picture j.picture result
   asked-picture j client ring (Ok view) = refl
@@ -126,7 +126,7 @@ module _ (d : Description) where
   abbrev Shows : PictureView → List Sight → JoyTurn → Type 0
   Shows p sight t = joy_fold d (shown p) (sight ++ record_sight (out_of t)) ≡ shown (joying_after t).picture
 
-  joying_after_sync-shows : (sight : List Sight) (j : Joying) (r : Reading) (stop : Option JoyRead)
+  joying_after_sync-shows : (sight : List Sight) (j : JoystickState) (r : ReaderState) (stop : Option JoyRead)
       → joy_fold d (shown j.picture) sight ≡ shown (synced_picture j.picture stop)
       → Shows j.picture sight (stop_or_on (with_reading j r) (with_startup r) stop)
   joying_after_sync-shows sight j r None h = rw append-nil h
@@ -139,17 +139,17 @@ module _ (d : Description) where
   record-shows p r fits = rw record-back
 
   -- nothing but that record
-  made-shows : (j : Joying) (o : Option JoyRecord) → FitsIf o → Shows j.picture [] (record_or_on j o)
+  made-shows : (j : JoystickState) (o : Option JoyRecord) → FitsIf o → Shows j.picture [] (record_or_on j o)
   unfolding joy_fold
   made-shows j None fits = refl
   made-shows j (Some r) fits = record-shows j.picture r fits
 
-  stop-shows : (j : Joying) (stop : Option JoyRead) → Shows j.picture [] (stop_or_on j j stop)
+  stop-shows : (j : JoystickState) (stop : Option JoyRead) → Shows j.picture [] (stop_or_on j j stop)
   unfolding joy_fold
   stop-shows j None = refl
   stop-shows j (Some read) = refl
 
-  after_next-shows : (j : Joying) (next : Next) → Shows j.picture [] (joying_after_next d j next)
+  after_next-shows : (j : JoystickState) (next : Next) → Shows j.picture [] (joying_after_next d j next)
   unfolding joy_fold
   after_next-shows j (Success taken) =
       cond_both (is_report taken.event) _ _ (Shows j.picture [])
@@ -230,12 +230,13 @@ module _ (d : Description) where
       whole = λ s view j. so s (Ok view) j.0;
     }
 
-    reader_start-shows : (j : Joying) (o : Started × Reading) (calls : List Call) → ArePlaced d h calls
+    reader_start-shows : (j : JoystickState) (o : Started × ReaderState) (calls : List Call)
+    → ArePlaced d h calls
         → EndsWith (start_talk d j.reading) calls o
         → joy_fold d (shown j.picture) (noted_sight calls) ≡ shown (joy_started d j o).1.picture
     reader_start-shows j o calls placed ends =
         let p : PictureView = j.picture in
-        let Q : Showing → Started × Reading → Type 0 = λ s q. s ≡ shown (joy_started d j q).1.picture in
+        let Q : Showing → Started × ReaderState → Type 0 = λ s q. s ≡ shown (joy_started d j q).1.picture in
         meets-ends Any ShownAt Q (shown p) _ _ calls o
         (start-meets Any ShownAt Q d j.reading (shown p) (record {
           asks_open = tt;
@@ -252,12 +253,13 @@ module _ (d : Description) where
               );
         })) (shown-run (shown p) calls placed) ends
 
-    joy_start-shows : (j : Joying) (o : Started × Joying) (calls : List Call) → ArePlaced d h calls
+    joy_start-shows : (j : JoystickState) (o : Started × JoystickState) (calls : List Call)
+    → ArePlaced d h calls
         → EndsWith (joy_start d j) calls o
         → joy_fold d (shown j.picture) (noted_sight calls) ≡ shown o.1.picture
     unfolding joy_start
     joy_start-shows j o calls placed ends =
-        let next : Started × Reading → Talk (Started × Joying) = λ q. finish (joy_started d j q) in
+        let next : Started × ReaderState → Talk (Started × JoystickState) = λ q. finish (joy_started d j q) in
         let p = split-and_then _ next calls o ends in
         let f = finished (joy_started d j p.between) o p.later p.later_ends in
         let first : ArePlaced d h p.first = placed-left d h p.first p.later (rw p.calls_are at placed) in
@@ -269,7 +271,7 @@ module _ (d : Description) where
           ← p.calls_are,
         )
 
-    needed-shows : (p : PictureView) (r : Reading) (calls : List Call) (o : Next × Reading)
+    needed-shows : (p : PictureView) (r : ReaderState) (calls : List Call) (o : Next × ReaderState)
         → is_needed r.phase ≡ true → ArePlaced d h calls → EndsWith (next_talk d Synchronising r) calls o
         → joy_fold d (shown p) (noted_sight calls) ≡ shown (synced_picture p (joy_read_of o.0))
     needed-shows p r calls o needed placed ends =
@@ -298,14 +300,15 @@ module _ (d : Description) where
         so s (Err reply) e =
             rw (← stopped-picture p (joy_read_of (reader_stop reply)) (reply-stops reply), ← e)
 
-    synchronises-shows : (j : Joying) (calls : List Call) (t : JoyTurn) → is_needed j.reading.phase ≡ true
+    synchronises-shows : (j : JoystickState) (calls : List Call) (t : JoyTurn)
+    → is_needed j.reading.phase ≡ true
         → ArePlaced d h calls → Synchronises d j calls t → Shows j.picture (noted_sight calls) t
     synchronises-shows j calls t needed placed s =
         rw (← s.comes_to) (joying_after_sync-shows _ j s.reading _
         (needed-shows j.picture j.reading calls _ needed placed s.talk_ends))
 
     still-rules : (p : PictureView)
-        → NextRules Any ShownAt (IsStill p) (λ (s : Showing) (o : Next × Reading). s ≡ shown p) d Normal
+        → NextRules Any ShownAt (IsStill p) (λ (s : Showing) (o : Next × ReaderState). s ≡ shown p) d Normal
     still-rules p = record {
       asks_read = λ s r i. tt;
       reads = λ s t r a i plain none by is. (after_read s t r a i.0 by, i.1);
@@ -320,23 +323,24 @@ module _ (d : Description) where
       goes_on = λ s r i is mode. (i.0, refl);
     }
       where
-        after_read : (s t : Showing) (r : Reading) (a : Answer) → s ≡ shown p
+        after_read : (s t : Showing) (r : ReaderState) (a : Answer) → s ≡ shown p
             → ShownAt s (ToRead r.client 64) a t → t ≡ shown p
         after_read s t r a is by = rw (by.1, is) (read_once p r.client 64 a.reply)
 
-    next-tells_nothing : (p : PictureView) (r : Reading) (calls : List Call) (o : Next × Reading)
+    next-tells_nothing : (p : PictureView) (r : ReaderState) (calls : List Call) (o : Next × ReaderState)
         (more : List Sight) → is_needed r.phase ≡ false → ArePlaced d h calls
         → EndsWith (next_talk d Normal r) calls o
         → joy_fold d (shown p) (noted_sight calls ++ more) ≡ joy_fold d (shown p) more
     next-tells_nothing p r calls o more plain placed ends =
         rw (
           joy_fold-append,
-          next-ends Any ShownAt (IsStill p) (λ (s : Showing) (q : Next × Reading). s ≡ shown p) d Normal
+          next-ends Any ShownAt (IsStill p) (λ (s : Showing) (q : Next × ReaderState). s ≡ shown p) d Normal
               (still-rules p) (shown p) (joy_fold d (shown p) (noted_sight calls)) r calls o (refl, plain)
               (shown-run (shown p) calls placed) ends,
         )
 
-    turn-shows : (j : Joying) (calls : List Call) (t : JoyTurn) → ArePlaced d h calls → TurnCase d j calls t
+    turn-shows : (j : JoystickState) (calls : List Call) (t : JoyTurn) → ArePlaced d h calls
+    → TurnCase d j calls t
         → Shows j.picture (noted_sight calls) t
     turn-shows j calls t placed (of_startup r at none is) =
         rw (← is, none) (record-shows j.picture r (startup-fits d j.reading.view j.handed r at))
@@ -358,7 +362,7 @@ module _ (d : Description) where
         ∙ rw (← is) (after_next-shows (with_reading j r) next)
 
     -- a turn that goes on
-    on-shows : (j k : Joying) (calls : List Call) → ArePlaced d h calls
+    on-shows : (j k : JoystickState) (calls : List Call) → ArePlaced d h calls
         → EndsWith (turn_talk d j) calls (goes_on k)
         → joy_fold d (shown j.picture) (noted_sight calls) ≡ shown k.picture
     on-shows j k calls placed e =
@@ -366,13 +370,13 @@ module _ (d : Description) where
         (turn-shows j calls (goes_on k) placed (turn-case d j calls (goes_on k) e))
 
     -- what holds of each read
-    abbrev ReadShows : Joying → List Call → JoyAnswer → Type 0
+    abbrev ReadShows : JoystickState → List Call → JoyAnswer → Type 0
     ReadShows j calls answer =
         ArePlaced d h calls
         → joy_fold d (shown j.picture) (noted_sight calls ++ record_sight answer.record_out)
         ≡ shown answer.joying.picture
 
-    more-shows : (j k : Joying) (calls more : List Call) (answer : JoyAnswer)
+    more-shows : (j k : JoystickState) (calls more : List Call) (answer : JoyAnswer)
         → EndsWith (turn_talk d j) calls (goes_on k) → ReadShows k more answer
         → ReadShows j (calls ++ more) answer
     more-shows j k calls more answer e rest placed =
@@ -383,7 +387,7 @@ module _ (d : Description) where
           on-shows j k calls (placed-left d h calls more placed) e,
         ) (rest (placed-right d h calls more placed))
 
-    turns-shows : (n count : ℕ) (j : Joying) (calls : List Call) (answer : JoyAnswer)
+    turns-shows : (n count : ℕ) (j : JoystickState) (calls : List Call) (answer : JoyAnswer)
         → EndsWith (turns d n count j) calls (Some answer) → ReadShows j calls answer
     turns-shows n count j calls answer ends =
         turns-all d (λ i cs a. ReadShows i cs a)

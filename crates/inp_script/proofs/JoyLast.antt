@@ -4,7 +4,7 @@ use Rattle.std.proofs.lemmas.Bool.{cond_both}
 use Rattle.inp_model.specs.declared.reply.Reply.TheVariants.{Again as NothingVisible}
 use Rattle.inp_script.proofs.Common.{Description, Call, JoyRead, JoyRecord, Next, EndsWith, is_report}
 use Rattle.inp_joy.specs.declared.joy_read.JoyRead.TheVariants.{Again}
-use Rattle.inp_joy.specs.Joy.{Joying, JoyAnswer, JoyTurn, gives, goes_on, joy_read_of, joy_record_of}
+use Rattle.inp_joy.specs.Joy.{JoystickState, JoyAnswer, JoyTurn, gives, goes_on, joy_read_of, joy_record_of}
 use Rattle.inp_joy.specs.Joy.{record_or_on, stop_or_on, joying_after_next, turns}
 use Rattle.inp_joy.proofs.TurnCases.{Synchronises, TurnCase, of_startup, of_sync, of_loss, of_next, turn-case}
 use Rattle.inp_joy.proofs.TurnCases.{turns-all}
@@ -32,23 +32,24 @@ turn-behind first second (gives answer) h = last-behind first second answer.read
 turn-behind first second (goes_on j) h = tt
 
 -- an answer of the reader that is one of the read
-stop-last : (calls : List Call) (j here : Joying) (next : Next)
+stop-last : (calls : List Call) (j here : JoystickState) (next : Next)
     → ((at ends : ℕ) → next ≡ ReaderAgain at ends → EndsIn calls (NothingVisible at ends))
     → TurnLastIsAgain calls (stop_or_on j here (joy_read_of next))
 stop-last calls j here (ReaderAgain at ends) last = last at ends refl
 stop-last calls j here _ last = tt
 
-synchronises-last : (d : Description) (j : Joying) (calls : List Call) (t : JoyTurn)
+synchronises-last : (d : Description) (j : JoystickState) (calls : List Call) (t : JoyTurn)
     → Synchronises d j calls t → TurnLastIsAgain calls t
 synchronises-last d j calls t s =
     rw (← s.comes_to) (stop-last calls _ _ s.next
     (λ at ends e. next-last d Synchronising j.reading s.reading calls at ends (rw e at s.talk_ends)))
 
-made-last : (calls : List Call) (j : Joying) (o : Option JoyRecord) → TurnLastIsAgain calls (record_or_on j o)
+made-last : (calls : List Call) (j : JoystickState) (o : Option JoyRecord)
+    → TurnLastIsAgain calls (record_or_on j o)
 made-last calls j None = tt
 made-last calls j (Some r) = tt
 
-after_next-last : (d : Description) (calls : List Call) (j : Joying) (next : Next)
+after_next-last : (d : Description) (calls : List Call) (j : JoystickState) (next : Next)
     → ((at ends : ℕ) → next ≡ ReaderAgain at ends → EndsIn calls (NothingVisible at ends))
     → TurnLastIsAgain calls (joying_after_next d j next)
 after_next-last d calls j (Success taken) last =
@@ -56,7 +57,7 @@ after_next-last d calls j (Success taken) last =
     (λ _. made-last calls j (joy_record_of d j.picture taken))
 after_next-last d calls j next last = stop-last calls j j next last
 
-turn-last : (d : Description) (j : Joying) (calls : List Call) (t : JoyTurn) → TurnCase d j calls t
+turn-last : (d : Description) (j : JoystickState) (calls : List Call) (t : JoyTurn) → TurnCase d j calls t
     → TurnLastIsAgain calls t
 turn-last d j calls t (of_startup r at none is) = rw (← is) tt
 turn-last d j calls t (of_sync needed s) = synchronises-last d j calls t s
@@ -67,7 +68,7 @@ turn-last d j calls t (of_next next r plain h is) =
     (λ at ends e. next-last d Normal j.reading r calls at ends (rw e at h)))
 
 -- a read answers Again only where its reader did, whose last call was answered so
-pub turns-last : (d : Description) (n count : ℕ) (j : Joying) (calls : List Call) (answer : JoyAnswer)
+pub turns-last : (d : Description) (n count : ℕ) (j : JoystickState) (calls : List Call) (answer : JoyAnswer)
     → EndsWith (turns d n count j) calls (Some answer) → LastIsAgain calls answer.read
 turns-last d n count j calls answer h =
     turns-all d (λ i cs a. LastIsAgain cs a.read)

@@ -2,9 +2,10 @@
 -- answered.
 use Rattle.std.proofs.Common.{◌≡◌, ℕ, zero, suc, ◌≤◌, List, ◌++◌, map, refl, sym, ◌∙◌, arith, Option, Some}
 use Rattle.std.proofs.Common.{None}
-use Rattle.inp_reader.specs.Says.{calls_kept}
+use Rattle.inp_reader.specs.FollowsTalk.{calls_kept}
 use Rattle.inp_script.proofs.Common.{Description, Call, Command, JoyRead, Talk, finish, and_then, EndsWith}
-use Rattle.inp_script.proofs.Common.{Sight, Job, joying_of, made_sight, noted, Joying, JoyAnswer, turns}
+use Rattle.inp_script.proofs.Common.{Sight, Job, joying_of, made_sight, noted, JoystickState, JoyAnswer}
+use Rattle.inp_script.proofs.Common.{turns}
 use Rattle.inp_script.proofs.Common.{Reach, handed_out, line_ends, after_joy_read, after_turns, read_on}
 use Rattle.inp_script.proofs.Common.{on_reach, read_records, joystick_talk}
 use Rattle.inp_actors.specs.declared.command.Command.TheVariants.{Open, Read}
@@ -24,7 +25,7 @@ ends-then talk next mid result first second h k =
     (LeadsTo-and_then talk (finish mid) next first h) k
 
 -- a read of more turns is noted with the same entries
-read-longer : (d : Description) (n m : ℕ) (j : Joying) (sight : List Sight) (calls : List Call)
+read-longer : (d : Description) (n m : ℕ) (j : JoystickState) (sight : List Sight) (calls : List Call)
     (o : Option JoyAnswer × List Sight) (answer : JoyAnswer) → Some answer ≡ o.0 → n ≤ m
     → EndsWith (noted (turns d n 0 j) sight) calls o → EndsWith (noted (turns d m 0 j) sight) calls o
 read-longer d n m j sight calls o answer is le h =

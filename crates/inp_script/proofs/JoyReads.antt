@@ -3,7 +3,7 @@
 use Rattle.std.proofs.Common.{◌≡◌, ℕ, suc, ◌+◌, ◌-◌, ◌<◌, ◌≤◌, List, [], ◌++◌, map, refl, append-nil, arith}
 use Rattle.std.proofs.Common.{Option, Some, None}
 use Rattle.inp_script.proofs.Common.{Description, EvdevView, JoyRead, JoyRecord, CallMade, Notes, Sight, Stop}
-use Rattle.inp_script.proofs.Common.{Holds, Begins, Job, joy_job, made_sight, noted, AreCalls, Joying}
+use Rattle.inp_script.proofs.Common.{Holds, Begins, Job, joy_job, made_sight, noted, AreCalls, JoystickState}
 use Rattle.inp_script.proofs.Common.{JoyAnswer, turns, Talk, finish, and_then, LeadsTo, EndsWith, Reach}
 use Rattle.inp_script.proofs.Common.{handed_out, line_ends, record_sight, after_joy_read, after_turns}
 use Rattle.inp_script.proofs.Common.{read_on, on_reach, read_records}
@@ -61,7 +61,8 @@ holds-leads before after talk next a s =
 -- One read
 
 -- how a line goes on by an answer, and by the bytes that were written
-answer-bytes : (go_on : Job → Talk (Option Reach)) (read : JoyRead) (out : Option JoyRecord) (k : Joying)
+answer-bytes : (go_on : Job → Talk (Option Reach)) (read : JoyRead) (out : Option JoyRecord)
+    (k : JoystickState)
     (sight : List Sight) (stop : Option Stop) (bytes before : List ℕ) → HandsOutAsSaid read out
     → bytes ≡ bytes_after out before
     → after_joy_read go_on read (joy_job k (record { sight = sight ++ record_sight out; stop = stop }))
@@ -71,7 +72,7 @@ answer-bytes go_on HandedOut (Some r) k sight stop bytes before said is = rw (�
 answer-bytes go_on read None k sight stop bytes before said is = rw append-nil
 answer-bytes go_on read (Some r) k sight stop bytes before said is = absurd said
 
-module _ (before after : EvdevView) (d : Description) (old new : Joying) (notes : Notes)
+module _ (before after : EvdevView) (d : Description) (old new : JoystickState) (notes : Notes)
     (made : List CallMade) (read : JoyRead) (out bytes : List ℕ)
     (is : IsJoyRead before after d old new made read out bytes) where
   -- what the client answers at that read
@@ -106,7 +107,7 @@ module _ (before after : EvdevView) (d : Description) (old new : Joying) (notes 
   -- a read that was made, with its entries noted, is one round of its line
   pub read-noted : (mid final : Notes) (left_by : AfterRead)
       → mid ≡ record notes { sight = notes.sight ++ map made_sight made }
-      → ((go_on : Job → Talk (Option Reach)) (k : Joying)
+      → ((go_on : Job → Talk (Option Reach)) (k : JoystickState)
       → after_bytes go_on read bytes (joy_job k mid) ≡ then_reads go_on left_by (joy_job k final))
       → HasRead before after d (joy_job old notes) left_by (joy_job new final)
   unfolding read_on
@@ -152,9 +153,9 @@ read-on-less More bytes j k after before goes less = less
 read-on-less read bytes j k after before goes less = absurd (goes-differ j k _ goes)
 
 -- a line reads on only behind an answer that leaves less to do
-pub read-less : (read : JoyRead) (bytes : List ℕ) (left_by : AfterRead) (mid final : Notes) (k : Joying)
-    (after before : ℕ)
-    → ((go_on : Job → Talk (Option Reach)) (l : Joying)
+pub read-less : (read : JoyRead) (bytes : List ℕ) (left_by : AfterRead) (mid final : Notes)
+    (k : JoystickState) (after before : ℕ)
+    → ((go_on : Job → Talk (Option Reach)) (l : JoystickState)
     → after_bytes go_on read bytes (joy_job l mid) ≡ then_reads go_on left_by (joy_job l final))
     → IsReadLess read after before
     → LeavesLess left_by after before

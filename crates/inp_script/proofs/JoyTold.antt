@@ -2,7 +2,8 @@
 use Rattle.std.proofs.Common.{◌≡◌, ℕ, List, [], ◌∷◌, ◌++◌, refl, sym, ◌∙◌, append-nil, Option, Some, None}
 use Rattle.inp_script.specs.Job.{with_joying}
 use Rattle.inp_script.proofs.Common.{Description, Call, Command, JoyRead, JoyRecord, Started, Talk, finish}
-use Rattle.inp_script.proofs.Common.{EndsWith, Sight, stop_after_start, Job, joying_of, Joying, JoyAnswer}
+use Rattle.inp_script.proofs.Common.{EndsWith, Sight, stop_after_start, Job, joying_of, JoystickState}
+use Rattle.inp_script.proofs.Common.{JoyAnswer}
 use Rattle.inp_script.proofs.Common.{joy_start, turns, after_joy_start, start_joystick, record_sight}
 use Rattle.inp_script.proofs.Common.{after_joy_answer}
 use Rattle.inp_joy.specs.declared.joy_read.JoyRead.TheVariants.{Again}
@@ -22,7 +23,7 @@ pub record Starts (d : Description) (j k : Job) (calls : List Call) : Type 0 whe
   -- what the start answered
   pub started : Started
   -- the joystick client that the start leaves
-  pub joying : Joying
+  pub joying : JoystickState
   -- the calls are all those of the start
   pub talk_ends : EndsWith (joy_start d (joying_of j)) calls (started, joying)
   -- the job has that client, the entries of the calls, and the stop that the start says
@@ -36,7 +37,8 @@ pub starts : (d : Description) (j k : Job) (calls : List Call) → EndsWith (sta
     → Starts d j k calls
 unfolding start_joystick
 starts d j k calls h =
-    let next : (Started × Joying) × List Sight → Talk (Option Job) = λ o. finish (after_joy_start j o) in
+    let next : (Started × JoystickState) × List Sight
+    → Talk (Option Job) = λ o. finish (after_joy_start j o) in
     let p = split-and_then _ next calls (Some k) h in
     let f = finished (after_joy_start j p.between) (Some k) p.later p.later_ends in
     let b = noted-back _ j.sight p.first p.between p.first_ends in

@@ -7,7 +7,8 @@ use Rattle.inp_joy.specs.Joy.{joy_started}
 use Rattle.inp_script.proofs.Common.{Step, Description, Answer, Command, JoyRead, EndsWith, Call, Sight, Job}
 use Rattle.inp_script.proofs.Common.{joying_of, step_of, after_call, noted, with_sight, start_talk, Talk}
 use Rattle.inp_script.proofs.Common.{finish, after_joy_start, stop_after_start, Started}
-use Rattle.inp_script.proofs.Common.{Reading, Joying, JoyAnswer, joy_start, turns, Reach, handed_out}
+use Rattle.inp_script.proofs.Common.{ReaderState, JoystickState, JoyAnswer, joy_start, turns, Reach}
+use Rattle.inp_script.proofs.Common.{handed_out}
 use Rattle.inp_script.proofs.Common.{line_ends, start_joystick, after_joy_answer, after_joy_read, after_turns}
 use Rattle.inp_script.proofs.Common.{read_on, on_reach, read_records, joystick_talk}
 use Rattle.inp_actors.specs.declared.command.Command.TheVariants.{Open, Read}
@@ -31,7 +32,7 @@ AfterTurns I j s None sight = Unit {0}
 AfterTurns I j s (Some answer) sight = AfterRead I s answer.read (after_joy_answer j answer sight)
 
 -- a job after a start
-abbrev pub joystick_started : Job → Started × Joying → List Sight → Job
+abbrev pub joystick_started : Job → Started × JoystickState → List Sight → Job
 joystick_started j o sight = record (with_joying j o.1) { sight = sight; stop = stop_after_start o.0 }
 
 abbrev OfReach : {S : Type 0} → (S → Job → Type 0) → S → Option Reach → Type 0
@@ -67,18 +68,20 @@ module _ {S : Type 0} (R : S → Step → Answer → S → Type 0) (I : S → Jo
     -- a start, by what its client's reader leaves
     pub start_joystick-meets : (s : S) (j : Job)
         → Meets Any (NotedBy R)
-        (λ (u : S × List Sight) (o : Started × Reading).
+        (λ (u : S × List Sight) (o : Started × ReaderState).
         I u.0 (joystick_started j (joy_started d (joying_of j) o) u.1))
         (s, j.sight) (start_talk d j.reading)
         → Meets Any R (OfJob I) s (start_joystick d j)
     unfolding start_joystick joy_start
     start_joystick-meets s j h =
-        let start : Talk (Started × Reading) = start_talk d j.reading in
-        let joy : Started × Reading → Talk (Started × Joying) = λ o. finish (joy_started d (joying_of j) o) in
-        let Q : S → (Started × Joying) × List Sight → Type 0 = λ t o. I t (joystick_started j o.0 o.1) in
+        let start : Talk (Started × ReaderState) = start_talk d j.reading in
+        let joy : Started × ReaderState → Talk (Started × JoystickState) = λ o. finish
+        (joy_started d (joying_of j) o) in
+        let Q : S → (Started × JoystickState) × List Sight
+        → Type 0 = λ t o. I t (joystick_started j o.0 o.1) in
         meets-then Any R Q (OfJob I) s _ (λ o. finish (after_joy_start j o))
         (meets-noted R Q s j.sight _
-        (meets-then Any (NotedBy R) _ (λ (u : S × List Sight) (o : Started × Joying). Q u.0 (o, u.1))
+        (meets-then Any (NotedBy R) _ (λ (u : S × List Sight) (o : Started × JoystickState). Q u.0 (o, u.1))
         (s, j.sight) start joy h (λ u o k. k)))
         (λ t o k. cond_both (start_lacks_memory o.0.0) _ _ (OfJob I t) (λ _. tt) (λ _. k))
 

@@ -1,6 +1,6 @@
 -- A `next` that answers Again made a call, and the last of its calls was answered so.
 use Rattle.std.proofs.Common.{◌≡◌, ℕ, List, [], ◌∷◌, ◌++◌, refl, sym, append_assoc, Option, Some, None}
-use Rattle.inp_script.proofs.Common.{Step, Reply, Description, Answer, Call, View, Mode, Next, Reading}
+use Rattle.inp_script.proofs.Common.{Step, Reply, Description, Answer, Call, View, Mode, Next, ReaderState}
 use Rattle.inp_script.proofs.Common.{stop_of, next_talk, EndsWith}
 use Rattle.inp_model.specs.declared.reply.Reply.TheVariants.{Again as NothingVisible}
 use Rattle.inp_reader.specs.declared.next.Next.TheVariants.{Again}
@@ -63,11 +63,11 @@ ends_in-any [] reply h = absurd cc
 ends_in-any (call ∷ calls) reply h = ends_in-last call calls reply h
 
 -- a `next` that answers so was answered so last
-abbrev EndsAgain : Option Reply → Next × Reading → Type 0
+abbrev EndsAgain : Option Reply → Next × ReaderState → Type 0
 EndsAgain last o = (at ends : ℕ) → o.0 ≡ Again at ends → last ≡ Some (NothingVisible at ends)
 
 again-rules : (d : Description) (mode : Mode)
-    → NextRules Any Replies (λ (last : Option Reply) (r : Reading). Unit {0}) EndsAgain d mode
+    → NextRules Any Replies (λ (last : Option Reply) (r : ReaderState). Unit {0}) EndsAgain d mode
 again-rules d mode = record {
   asks_read = λ s r i. tt;
   reads = λ s t r a i plain none by is. tt;
@@ -78,7 +78,7 @@ again-rules d mode = record {
   idles = λ s r i plain is at ends e. cc;
   syncs = λ s r i needed.
       sync-meets Any Replies (λ (t : Option Reply) (view : View) (left : List Step). Unit {0})
-      (Renewed (λ (last : Option Reply) (o : Reading). Unit {0}) EndsAgain r) d s r (record {
+      (Renewed (λ (last : Option Reply) (o : ReaderState). Unit {0}) EndsAgain r) d s r (record {
         asks = λ u view x xs j. tt;
         told = λ u t view x xs a j by is. tt;
         stopped = λ u t view x xs a j by is at ends e. rw (by, stopped_again a.reply at ends e);
@@ -90,9 +90,9 @@ again-rules d mode = record {
 }
 
 -- a `next` stops as Again only by a call that was answered Again, and asks nothing after it
-pub next-last : (d : Description) (mode : Mode) (r s : Reading) (calls : List Call) (at ends : ℕ)
+pub next-last : (d : Description) (mode : Mode) (r s : ReaderState) (calls : List Call) (at ends : ℕ)
     → EndsWith (next_talk d mode r) calls (Again at ends, s) → EndsIn calls (NothingVisible at ends)
 next-last d mode r s calls at ends h =
     ends_in-any calls _
-    (next-ends Any Replies (λ (last : Option Reply) (o : Reading). Unit {0}) EndsAgain d mode
+    (next-ends Any Replies (λ (last : Option Reply) (o : ReaderState). Unit {0}) EndsAgain d mode
     (again-rules d mode) None _ r calls _ tt (replies-run None calls) h at ends refl)

@@ -2,7 +2,8 @@
 use Rattle.std.proofs.Common.{◌≡◌, ℕ, Bool, true, List, [], ◌∷◌, ◌++◌, refl, ◌∙◌, Option, Some, None}
 use Rattle.std.proofs.Common.{append-nil, append_assoc}
 use Rattle.inp_script.proofs.Common.{Stamped, Step, Reply, Description, Command, Role, is_command_of}
-use Rattle.inp_script.proofs.Common.{RecordView, View, Mode, Next, Started, Reading, next_talk, Talk, finish}
+use Rattle.inp_script.proofs.Common.{RecordView, View, Mode, Next, Started, ReaderState, next_talk, Talk}
+use Rattle.inp_script.proofs.Common.{finish}
 use Rattle.inp_script.proofs.Common.{EndsWith, Sight, Waiting, Job, ActorView, first_job, step_of, after_call}
 use Rattle.inp_script.proofs.Common.{end_talk, noted, call_sight, again_sight, EvdevView, BeginsWith, Answer}
 use Rattle.inp_script.proofs.Common.{accepted, IsAnswer, Call, HasPlace, Source, Client, Tap, Joy, AreCalls}
@@ -12,7 +13,8 @@ use Rattle.inp_actors.specs.declared.command.Command.TheVariants.{Close, Grab, U
 use Rattle.inp_actors.specs.declared.command.Command.TheVariants.{Write, SetAxis}
 use Rattle.inp_recon.specs.View.{first_view}
 use Rattle.inp_reader.specs.declared.next.Next.TheVariants.{Success, Dropped, Sync, Again}
-use Rattle.inp_script.specs.Client.{Going, Turn, start_job, start_ends, job_after_start, after_next, mode_of}
+use Rattle.inp_script.specs.Client.{LineProgress, Turn, start_job, start_ends, job_after_start, after_next}
+use Rattle.inp_script.specs.Client.{mode_of}
 use Rattle.inp_script.specs.Client.{next_round, forced}
 use Rattle.inp_script.specs.JoyFold.{joy_fold}
 use Rattle.inp_script.specs.Fold.{settled, after_first_call, client_fold, tap_fold, IsFolded, StaysFolded}
@@ -115,7 +117,7 @@ module _ (d : Description) where
         → EndsWith (start_job d j) calls (Some k) → IsClientFold v j → IsClientFold v k
     unfolding start_job
     start_job-folds v j k calls placed ends fold =
-        let next : (Started × Reading) × List Sight → Talk (Option Job) = λ o. finish (start_ends o) in
+        let next : (Started × ReaderState) × List Sight → Talk (Option Job) = λ o. finish (start_ends o) in
         let p = split-and_then _ next calls (Some k) ends in
         let f = finished (start_ends p.between) (Some k) p.later p.later_ends in
         let b = noted-back _ j.sight p.first p.between p.first_ends in
@@ -147,14 +149,14 @@ module _ (d : Description) where
     after-fold next j fold = bare (first_view d) j fold
 
     round-fold : (s : Unit {0}) (wait : Option Waiting) (skips : Bool)
-        (g : Going) → IsFolded Client d h g.job
+        (g : LineProgress) → IsFolded Client d h g.job
         → Meets Any (Placed d h) (GoesOnFolded Client d h) s (next_round d wait skips g)
     unfolding next_round
     round-fold s wait skips g fold =
         let mode : Mode = mode_of skips g.job.reading.phase in
-        let talk : Talk (Next × Reading) = next_talk d mode g.job.reading in
+        let talk : Talk (Next × ReaderState) = next_talk d mode g.job.reading in
         let G : Unit {0} → Turn → Type 0 = GoesOnFolded Client d h in
-        let Q : Unit {0} → (Next × Reading) × List Sight → Type 0 = λ t o. G t (after_next wait g o) in
+        let Q : Unit {0} → (Next × ReaderState) × List Sight → Type 0 = λ t o. G t (after_next wait g o) in
         meets-then Any (Placed d h) Q G s (noted talk g.job.sight) (λ o. finish (after_next wait g o))
         (noted-ends-meet (Placed d h) Q s g.job.sight talk (λ t calls o run ends.
         let sight : List Sight = g.job.sight ++ noted_sight calls in

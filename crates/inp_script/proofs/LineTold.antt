@@ -1,7 +1,7 @@
 -- What each line adds to a sight tells of its calls.
 use Rattle.std.proofs.Common.{◌≡◌, ℕ, false, List, [], ◌∷◌, ◌++◌, refl, append-nil, Option, Some}
 use Rattle.inp_script.proofs.Common.{Stamped, Step, Reply, Description, Answer, Call, Command, Role, View}
-use Rattle.inp_script.proofs.Common.{Mode, Next, Reading, stop_of, start_talk, next_talk, Talk, EndsWith}
+use Rattle.inp_script.proofs.Common.{Mode, Next, ReaderState, stop_of, start_talk, next_talk, Talk, EndsWith}
 use Rattle.inp_script.proofs.Common.{Sight, Stop, Waiting, mode_of, after_next, Job, after_call, end_talk}
 use Rattle.inp_script.proofs.Common.{call_sight, line_talk, is_call_entry}
 use Rattle.inp_model.specs.declared.reply.Reply.TheVariants.{Again as NothingVisible}
@@ -48,7 +48,8 @@ module _ (old : List Sight) where
       (tells-noted (record { step = x; answer = a } ∷ []) u.1 v.1 (entry-is x a.reply u.1 v.1 by.1)) t
 
   -- where the reader ends on this reply
-  told-stop : (j : Job) (r : Reading) (u v : List Call × List Sight) (x : Step) (a : Answer) → Told u.0 u.1
+  told-stop : (j : Job) (r : ReaderState) (u v : List Call × List Sight) (x : Step) (a : Answer)
+      → Told u.0 u.1
       → NotedBy Listed u x a v → AfterNext (TellsOf old) v.0 (stop_of a.reply) (read_so j r v.1)
   told-stop j r u v x a t by =
       stop-cases (λ next. AfterNext (TellsOf old) v.0 next (read_so j r v.1)) a.reply
@@ -66,10 +67,10 @@ module _ (old : List Sight) where
   -- A `next`
 
   -- of a reader, and of what it answers
-  abbrev IsTold : List Call × List Sight → Reading → Type 0
+  abbrev IsTold : List Call × List Sight → ReaderState → Type 0
   IsTold u r = Told u.0 u.1
 
-  abbrev ToldNext : Job → List Call × List Sight → Next × Reading → Type 0
+  abbrev ToldNext : Job → List Call × List Sight → Next × ReaderState → Type 0
   ToldNext j u o = AfterNext (TellsOf old) u.0 o.0 (read_so j o.1 u.1)
 
   told-rules : (j : Job) (d : Description) (mode : Mode)
@@ -115,7 +116,7 @@ module _ (old : List Sight) where
         let mode : Mode = mode_of skips g.job.reading.phase in
         round-meets Listed (TellsOf old) (OfGoing (TellsOf old)) d s waits skips g
         (meets-weaker Any (NotedBy Listed) (ToldNext g.job)
-        (λ (u : List Call × List Sight) (o : Next × Reading).
+        (λ (u : List Call × List Sight) (o : Next × ReaderState).
         OfTurn (TellsOf old) (OfGoing (TellsOf old)) u.0 (after_next waits g (o, u.1)))
         (s, g.job.sight) (next_talk d mode g.job.reading)
         (next-meets Any (NotedBy Listed) IsTold (ToldNext g.job) d mode (told-rules g.job d mode)

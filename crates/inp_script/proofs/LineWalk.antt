@@ -6,7 +6,7 @@ use Rattle.std.proofs.lemmas.Bool.{cond_both}
 use Rattle.inp_model.specs.declared.step.Step.TheVariants.{Inject, End}
 use Rattle.inp_script.specs.Line.{stream_numbered, source_talk}
 use Rattle.inp_script.proofs.Common.{Stamped, Step, Description, Answer, is_accepted, Command, Role, Next}
-use Rattle.inp_script.proofs.Common.{Started, Reading, start_talk, next_talk, Talk, finish, ask, EndsWith}
+use Rattle.inp_script.proofs.Common.{Started, ReaderState, start_talk, next_talk, Talk, finish, ask, EndsWith}
 use Rattle.inp_script.proofs.Common.{Sight, Stop, Waiting, Job, joystick_talk, noted, call_sight}
 use Rattle.inp_script.proofs.Common.{lacks_memory, Call, Source, Client, Tap, Joy, Owner}
 use Rattle.inp_script.proofs.Common.{NO_CLIENT, command_talk, unless_stopped, line_talk, step_of, after_call}
@@ -17,7 +17,8 @@ use Rattle.inp_reader.specs.declared.next.Next.TheVariants.{Success, Dropped, Sy
 use Rattle.inp_reader.proofs.Meets.{Meets, Any, meets-then, meets-if, Runs, ends-meet}
 use Rattle.inp_script.specs.declared.sight.Sight.TheVariants.{Took, Made, Again as AgainSight}
 use Rattle.inp_script.specs.declared.stop.Stop.TheVariants.{Idle, Full as FullStop}
-use Rattle.inp_script.specs.Client.{Going, Turn, goes_on, ends_with, start_job, start_ends, job_after_start}
+use Rattle.inp_script.specs.Client.{LineProgress, Turn, goes_on, ends_with, start_job, start_ends}
+use Rattle.inp_script.specs.Client.{job_after_start}
 use Rattle.inp_script.specs.Client.{handed, one_less, is_done, patience, after_again, turn_after, after_next}
 use Rattle.inp_script.specs.Client.{mode_of, with_sight, with_stop, forced, next_round, on_turn, rounds}
 use Rattle.inp_script.specs.Client.{hand_talk, client_talk}
@@ -65,12 +66,12 @@ abbrev pub OfJob : {S : Type 0} → (S → Job → Type 0) → S → Option Job 
 OfJob I s None = Unit {0}
 OfJob I s (Some j) = I s j
 
-abbrev pub OfTurn : {S : Type 0} → (S → Job → Type 0) → (S → Going → Type 0) → S → Turn → Type 0
+abbrev pub OfTurn : {S : Type 0} → (S → Job → Type 0) → (S → LineProgress → Type 0) → S → Turn → Type 0
 OfTurn I G s (goes_on g) = G s g
 OfTurn I G s (ends_with j) = I s j
 
 -- what is known of the job alone
-abbrev pub OfGoing : {S : Type 0} → (S → Job → Type 0) → S → Going → Type 0
+abbrev pub OfGoing : {S : Type 0} → (S → Job → Type 0) → S → LineProgress → Type 0
 OfGoing I s g = I s g.job
 
 -- of a job behind an answer of its reader, with the entry that the answer adds
@@ -81,7 +82,7 @@ AfterNext I s (Sync event) j = I s (with_sight j (Made event))
 AfterNext I s (Again at ends) j = I s j × I s (with_sight j (AgainSight at ends))
 AfterNext I s _ j = I s j
 
-abbrev pub read_so : Job → Reading → List Sight → Job
+abbrev pub read_so : Job → ReaderState → List Sight → Job
 read_so j r sight = record j { reading = r; sight = sight }
 
 -- a client's command that is a call, and no more
@@ -93,14 +94,14 @@ is_one_call Follow = false
 is_one_call Force = false
 is_one_call _ = true
 
-handed-cases : {S : Type 0} (I : S → Job → Type 0) (G : S → Going → Type 0) (s : S) (left : Option ℕ)
+handed-cases : {S : Type 0} (I : S → Job → Type 0) (G : S → LineProgress → Type 0) (s : S) (left : Option ℕ)
     (k : Job) → G s (record { job = k; left = one_less left; agains = 0 }) → I s k
     → OfTurn I G s (handed (one_less left) k)
 handed-cases I G s left k anew i = cond_both (is_done (one_less left)) _ _ (OfTurn I G s) (λ _. i) (λ _. anew)
 
 -- what a turn leaves, by the ways in which a line goes on or stops
-pub turn-cases : {S : Type 0} (I : S → Job → Type 0) (G : S → Going → Type 0) (s : S) (wait : Option Waiting)
-    (left : Option ℕ) (agains : ℕ) (next : Next) (j : Job)
+pub turn-cases : {S : Type 0} (I : S → Job → Type 0) (G : S → LineProgress → Type 0) (s : S)
+    (wait : Option Waiting) (left : Option ℕ) (agains : ℕ) (next : Next) (j : Job)
     → ((k : Job) (l : Option ℕ) → I s k → G s (record { job = k; left = l; agains = 0 }))
     → ((at ends : ℕ) → next ≡ Again at ends → G s (record { job = j; left = left; agains = suc agains }))
     → ((at ends idle : ℕ) → next ≡ Again at ends → nat_le idle (suc agains) ≡ true
@@ -202,17 +203,17 @@ module _ {S : Type 0} (R : S → Step → Answer → S → Type 0) where
 
     -- a start of a job is that of its reader, noted, and ends with no job where memory ran out
     pub start_job-meets : (d : Description) (s : S) (j : Job)
-        → Meets Any (NotedBy R) (λ (u : S × List Sight) (o : Started × Reading).
+        → Meets Any (NotedBy R) (λ (u : S × List Sight) (o : Started × ReaderState).
         I u.0 (job_after_start o.0 o.1 u.1)) (s, j.sight) (start_talk d j.reading)
         → Meets Any R (OfJob I) s (start_job d j)
     unfolding start_job
     start_job-meets d s j h =
-        let Q : S → (Started × Reading) × List Sight → Type 0 =
+        let Q : S → (Started × ReaderState) × List Sight → Type 0 =
         λ t o. I t (job_after_start o.0.0 o.0.1 o.1) in
         meets-then Any R Q (OfJob I) s _ (λ o. finish (start_ends o)) (meets-noted R Q s j.sight _ h)
         (λ t o k. cond_both (start_lacks_memory o.0.0) _ _ (OfJob I t) (λ _. tt) (λ _. k))
 
-    module _ (G : S → Going → Type 0) where
+    module _ (G : S → LineProgress → Type 0) where
       -- What is known of a job, I, stays so on each way through a line; and so does what is known of one in
       -- the midst of a line, G.
       pub record LineRules (d : Description) (role : Role) (command : Command)
@@ -230,7 +231,7 @@ module _ {S : Type 0} (R : S → Step → Answer → S → Type 0) where
         pub begins : role ≡ Client → (s : S) (j : Job) (left : Option ℕ) → I s j
             → G s (record { job = j; left = left; agains = 0 })
         -- a line that does not wait has no round that does
-        pub rounds : role ≡ Client → (s : S) (waits : Option Waiting) (skips : Bool) (g : Going)
+        pub rounds : role ≡ Client → (s : S) (waits : Option Waiting) (skips : Bool) (g : LineProgress)
             → (wait ≡ None → waits ≡ None) → G s g → Meets Any R (OfTurn I G) s (next_round d waits skips g)
         -- for a synchronisation that is asked for, without a call
         pub forces : role ≡ Client → (s : S) (j : Job) → I s j → I s (forced j)
@@ -239,22 +240,24 @@ module _ {S : Type 0} (R : S → Step → Answer → S → Type 0) where
             → Meets Any R (OfJob I) s (joystick_talk d n command j)
 
       -- a round, by what `next` leaves
-      pub round-meets : (d : Description) (s : S) (wait : Option Waiting) (skips : Bool) (g : Going)
+      pub round-meets : (d : Description) (s : S) (wait : Option Waiting) (skips : Bool) (g : LineProgress)
           → Meets Any (NotedBy R)
-          (λ (u : S × List Sight) (o : Next × Reading). OfTurn I G u.0 (after_next wait g (o, u.1)))
+          (λ (u : S × List Sight) (o : Next × ReaderState). OfTurn I G u.0 (after_next wait g (o, u.1)))
           (s, g.job.sight) (next_talk d (mode_of skips g.job.reading.phase) g.job.reading)
           → Meets Any R (OfTurn I G) s (next_round d wait skips g)
       unfolding next_round
       round-meets d s wait skips g h =
-          let talk : Talk (Next × Reading) = next_talk d (mode_of skips g.job.reading.phase) g.job.reading in
-          let Q : S → (Next × Reading) × List Sight → Type 0 = λ t o. OfTurn I G t (after_next wait g o) in
+          let talk : Talk (Next × ReaderState) = next_talk d
+          (mode_of skips g.job.reading.phase) g.job.reading in
+          let Q : S → (Next × ReaderState) × List Sight
+          → Type 0 = λ t o. OfTurn I G t (after_next wait g o) in
           meets-then Any R Q (OfTurn I G) s _ (λ o. finish (after_next wait g o))
           (meets-noted R Q s g.job.sight talk h) (λ t o k. k)
 
       -- each round keeps what is known, and a line that runs out of rounds ends with no job
       pub rounds-meets : (d : Description) (wait : Option Waiting) (skips : Bool)
-          → ((s : S) (g : Going) → G s g → Meets Any R (OfTurn I G) s (next_round d wait skips g))
-          → (n : ℕ) (s : S) (g : Going) → G s g → Meets Any R (OfJob I) s (rounds d wait skips n g)
+          → ((s : S) (g : LineProgress) → G s g → Meets Any R (OfTurn I G) s (next_round d wait skips g))
+          → (n : ℕ) (s : S) (g : LineProgress) → G s g → Meets Any R (OfJob I) s (rounds d wait skips n g)
       unfolding rounds
       rounds-meets d wait skips round zero s g i = tt
       rounds-meets d wait skips round (suc n) s g i =
@@ -270,7 +273,7 @@ module _ {S : Type 0} (R : S → Step → Answer → S → Type 0) where
           → (waits : Option Waiting) (skips : Bool) (left : Option ℕ) (n : ℕ) (s : S) (j : Job)
           → (wait ≡ None → waits ≡ None) → I s j → Meets Any R (OfJob I) s (hand_talk d waits skips left n j)
       hand-meets d command wait rules waits skips left n s j none i =
-          let start : Going = record { job = j; left = left; agains = 0 } in
+          let start : LineProgress = record { job = j; left = left; agains = 0 } in
           meets-if Any R (OfJob I) s (is_done left) (finish (Some j)) (rounds d waits skips n start) (λ is. i)
           (λ is. rounds-meets d waits skips (λ t g h. rules.rounds refl t waits skips g none h) n s start
           (rules.begins refl s j left i))

@@ -13,7 +13,7 @@ use Rattle.inp_script.specs.Notes.{IsNoted}
 use Rattle.inp_script.specs.DoneLine.{HasStream, DoesCommand}
 use Rattle.inp_script.specs.Line.{stream_numbered, source_talk}
 use Rattle.inp_script.proofs.Common.{Stamped, Reply, EvdevView, ActorText, Command, Line, Role}
-use Rattle.inp_script.proofs.Common.{Source as SourceRole, Reading, Talk, finish, Notes, Stop, Waiting}
+use Rattle.inp_script.proofs.Common.{Source as SourceRole, ReaderState, Talk, finish, Notes, Stop, Waiting}
 use Rattle.inp_script.proofs.Common.{RoleState, Job, Stick, ActorView, no_stick, role_of, stick_of}
 use Rattle.inp_script.proofs.Common.{is_command_of, RecordView, IsRecord, job_with, IsStepMade, Holds, Begins}
 use Rattle.inp_script.proofs.Common.{DoesLine, BeginsLine, IsCommandFor, command_talk}
@@ -207,14 +207,14 @@ pub ends-nothing : (told : EvdevView) (j : Job) → is_some j.stop ≡ true
 ends-nothing told j h = holds-nothing told _ (Some j) (end_stopped j.stop j h)
 
 -- a source that goes on makes the one call End, which was noted
-pub ends-noted : (before after : EvdevView) (r : Reading) (stick : Stick) (reply : Reply) (old new : Notes)
-    → is_some old.stop ≡ false → IsNoted before after End reply old new
+pub ends-noted : (before after : EvdevView) (r : ReaderState) (stick : Stick) (reply : Reply)
+    (old new : Notes) → is_some old.stop ≡ false → IsNoted before after End reply old new
     → Holds before after (end_talk old.stop (job_with r stick old)) (Some (job_with r stick new))
 ends-noted before after r stick reply old new h n =
     rw end_going (holds-noted before after End reply old new r stick n)
 
 -- a source that goes on makes the one call End, whether it was noted or not
-pub ends-begun : (before after : EvdevView) (r : Reading) (stick : Stick) (old : Notes)
+pub ends-begun : (before after : EvdevView) (r : ReaderState) (stick : Stick) (old : Notes)
     → is_some old.stop ≡ false → IsStepMade before after End
     → Begins before after (end_talk old.stop (job_with r stick old))
 ends-begun before after r stick old h made =

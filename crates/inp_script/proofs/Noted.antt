@@ -5,13 +5,15 @@ use Rattle.std.proofs.Common.{false, if◌then◌else◌, Option, Some, ℕ}
 use Rattle.std.proofs.lemmas.List.{map-append}
 use Rattle.inp_script.specs.Notes.{IsStartNoted}
 use Rattle.inp_script.proofs.Common.{Step, Reply, Description, EvdevView, is_again, Call, CallMade, Mode}
-use Rattle.inp_script.proofs.Common.{Next, Started, Reading, start_talk, next_talk, Notes, Sight, Waiting}
-use Rattle.inp_script.proofs.Common.{Holds, Begins, call_sight, made_sight, noted, job_of, joy_job, Joying}
+use Rattle.inp_script.proofs.Common.{Next, Started, ReaderState, start_talk, next_talk, Notes, Sight, Waiting}
+use Rattle.inp_script.proofs.Common.{Holds, Begins, call_sight, made_sight, noted, job_of, joy_job}
+use Rattle.inp_script.proofs.Common.{JoystickState}
 use Rattle.inp_script.proofs.Common.{joy_start, Talk, finish, ask, LeadsTo, EndsWith, after_joy_start}
 use Rattle.inp_script.proofs.Common.{start_joystick}
-use Rattle.inp_reader.specs.Says.{Says, kept_call, calls_kept}
+use Rattle.inp_reader.specs.FollowsTalk.{FollowsTalk, kept_call, calls_kept}
 use Rattle.inp_script.specs.declared.sight.Sight.TheVariants.{Call as Called}
-use Rattle.inp_script.specs.Client.{Going, Turn, start_job, start_ends, next_round, after_next, mode_of}
+use Rattle.inp_script.specs.Client.{LineProgress, Turn, start_job, start_ends, next_round, after_next}
+use Rattle.inp_script.specs.Client.{mode_of}
 use Rattle.inp_script.proofs.TalkCalls.{holds-nothing, holds-then, begins-then}
 
 -- the entries of a call that is kept, and of one that is not
@@ -45,7 +47,7 @@ noted-ends {A = A} (ask x rest) sight (call ∷ calls) a h =
 
 -- a reader's calls, noted
 pub holds-reader : {A : Type 0} (before after : EvdevView) (made : List CallMade) (talk : Talk A)
-    (sight : List Sight) (a : A) → Says before after [] made talk a
+    (sight : List Sight) (a : A) → FollowsTalk before after [] made talk a
     → Holds before after (noted talk sight) (a, sight ++ map made_sight made)
 holds-reader {A = A} before after made talk sight a s = record {
   calls = s.calls;
@@ -55,57 +57,57 @@ holds-reader {A = A} before after made talk sight a s = record {
 
 module _ (before after : EvdevView) (d : Description) where
   -- a start
-  pub start-noted : (r s : Reading) (old new : Notes) (made kept : List CallMade) (started : Started)
-      → Says before after [] made (start_talk d r) (started, s) → kept ≡ made
+  pub start-noted : (r s : ReaderState) (old new : Notes) (made kept : List CallMade) (started : Started)
+      → FollowsTalk before after [] made (start_talk d r) (started, s) → kept ≡ made
       → IsStartNoted started kept old new
       → Holds before after (start_job d (job_of r old)) (Some (job_of s new))
   unfolding start_job
   start-noted r s old new made kept started says same n =
       let entries : List Sight = old.sight ++ map made_sight made in
-      let o : (Started × Reading) × List Sight = ((started, s), entries) in
-      holds-then before after after _ (λ (p : (Started × Reading) × List Sight). finish (start_ends p)) o _
-      (holds-reader before after made _ old.sight (started, s) says)
+      let o : (Started × ReaderState) × List Sight = ((started, s), entries) in
+      holds-then before after after _ (λ (p : (Started × ReaderState) × List Sight). finish (start_ends p)) o
+      _ (holds-reader before after made _ old.sight (started, s) says)
       (holds-nothing after _ _
       (rw (n.memory, n.noted, same)))
 
   -- one of which nothing was noted
-  pub start-begun : (r s : Reading) (old : Notes) (made : List CallMade) (started : Started)
-      → Says before after [] made (start_talk d r) (started, s)
+  pub start-begun : (r s : ReaderState) (old : Notes) (made : List CallMade) (started : Started)
+      → FollowsTalk before after [] made (start_talk d r) (started, s)
       → Begins before after (start_job d (job_of r old))
   unfolding start_job
   start-begun r s old made started says =
-      begins-then before after _ (λ (p : (Started × Reading) × List Sight). finish (start_ends p)) _
+      begins-then before after _ (λ (p : (Started × ReaderState) × List Sight). finish (start_ends p)) _
       (holds-reader before after made _ old.sight (started, s) says)
 
   -- a start of a joystick client
-  pub joystick-noted : (k l : Joying) (old new : Notes) (made kept : List CallMade) (started : Started)
-      → Says before after [] made (joy_start d k) (started, l) → kept ≡ made
+  pub joystick-noted : (k l : JoystickState) (old new : Notes) (made kept : List CallMade) (started : Started)
+      → FollowsTalk before after [] made (joy_start d k) (started, l) → kept ≡ made
       → IsStartNoted started kept old new
       → Holds before after (start_joystick d (joy_job k old)) (Some (joy_job l new))
   unfolding start_joystick
   joystick-noted k l old new made kept started says same n =
       let entries : List Sight = old.sight ++ map made_sight made in
-      let o : (Started × Joying) × List Sight = ((started, l), entries) in
+      let o : (Started × JoystickState) × List Sight = ((started, l), entries) in
       holds-then before after after _
-      (λ (p : (Started × Joying) × List Sight). finish (after_joy_start (joy_job k old) p)) o _
+      (λ (p : (Started × JoystickState) × List Sight). finish (after_joy_start (joy_job k old) p)) o _
       (holds-reader before after made _ old.sight (started, l) says)
       (holds-nothing after _ _
       (rw (n.memory, n.noted, same)))
 
   -- one of which nothing was noted
-  pub joystick-begun : (k l : Joying) (old : Notes) (made : List CallMade) (started : Started)
-      → Says before after [] made (joy_start d k) (started, l)
+  pub joystick-begun : (k l : JoystickState) (old : Notes) (made : List CallMade) (started : Started)
+      → FollowsTalk before after [] made (joy_start d k) (started, l)
       → Begins before after (start_joystick d (joy_job k old))
   unfolding start_joystick
   joystick-begun k l old made started says =
       begins-then before after _
-      (λ (p : (Started × Joying) × List Sight). finish (after_joy_start (joy_job k old) p)) _
+      (λ (p : (Started × JoystickState) × List Sight). finish (after_joy_start (joy_job k old) p)) _
       (holds-reader before after made _ old.sight (started, l) says)
 
   -- one round
-  pub round-noted : (wait : Option Waiting) (skips : Bool) (r s : Reading) (old mid : Notes)
+  pub round-noted : (wait : Option Waiting) (skips : Bool) (r s : ReaderState) (old mid : Notes)
       (made : List CallMade) (left : Option ℕ) (agains : ℕ) (next : Next) (turn : Turn)
-      → Says before after [] made (next_talk d (mode_of skips r.phase) r) (next, s)
+      → FollowsTalk before after [] made (next_talk d (mode_of skips r.phase) r) (next, s)
       → mid ≡ record old { sight = old.sight ++ map made_sight made }
       → after_next wait (record { job = job_of r mid; left = left; agains = agains })
       ((next, s), mid.sight) ≡ turn
@@ -113,22 +115,22 @@ module _ (before after : EvdevView) (d : Description) where
       (next_round d wait skips (record { job = job_of r old; left = left; agains = agains })) turn
   unfolding next_round
   round-noted wait skips r s old mid made left agains next turn says noted_is is =
-      let g : Going = record { job = job_of r old; left = left; agains = agains } in
-      let o : (Next × Reading) × List Sight = ((next, s), old.sight ++ map made_sight made) in
+      let g : LineProgress = record { job = job_of r old; left = left; agains = agains } in
+      let o : (Next × ReaderState) × List Sight = ((next, s), old.sight ++ map made_sight made) in
       let same : after_next wait g o ≡ turn = rw noted_is at is in
       holds-then before after after _
-      (λ (p : (Next × Reading) × List Sight). finish (after_next wait g p)) o turn
+      (λ (p : (Next × ReaderState) × List Sight). finish (after_next wait g p)) o turn
       (holds-reader before after made _ old.sight (next, s) says)
       (holds-nothing after _ turn (rw same))
 
   -- one of which nothing was noted
-  pub round-begun : (wait : Option Waiting) (skips : Bool) (r s : Reading) (old : Notes)
+  pub round-begun : (wait : Option Waiting) (skips : Bool) (r s : ReaderState) (old : Notes)
       (made : List CallMade) (left : Option ℕ) (agains : ℕ) (next : Next) (mode : Mode)
-      → mode ≡ mode_of skips r.phase → Says before after [] made (next_talk d mode r) (next, s)
+      → mode ≡ mode_of skips r.phase → FollowsTalk before after [] made (next_talk d mode r) (next, s)
       → Begins before after
       (next_round d wait skips (record { job = job_of r old; left = left; agains = agains }))
   unfolding next_round
   round-begun wait skips r s old made left agains next mode same says =
-      let g : Going = record { job = job_of r old; left = left; agains = agains } in
-      begins-then before after _ (λ (p : (Next × Reading) × List Sight). finish (after_next wait g p)) _
+      let g : LineProgress = record { job = job_of r old; left = left; agains = agains } in
+      begins-then before after _ (λ (p : (Next × ReaderState) × List Sight). finish (after_next wait g p)) _
       (holds-reader before after made _ old.sight (next, s) (rw same at says))

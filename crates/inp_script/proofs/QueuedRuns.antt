@@ -13,13 +13,13 @@ use Rattle.inp_script.proofs.Common.{Waiting, Job, job_of, noted, taken_sight, E
 use Rattle.inp_script.proofs.Common.{effort, Talk, finish, LeadsTo, total_effort}
 use Rattle.inp_recon.specs.View.{view_after_event, view_after_events}
 use Rattle.inp_recon.specs.Synchronised.{is_dropped}
-use Rattle.inp_reader.specs.Reader.{Reading, first_run, queued_run, after_run, has_loss, hand_out_event}
+use Rattle.inp_reader.specs.Reader.{ReaderState, first_run, queued_run, after_run, has_loss, hand_out_event}
 use Rattle.inp_reader.specs.Reader.{next_talk, is_plain_phase}
 use Rattle.inp_reader.proofs.NextWalk.{next-queued}
 use Rattle.inp_reader.proofs.Runs.{queue-run, queued-many}
 use Rattle.inp_script.specs.declared.role.client.Turn.{Turn as KeptTurn}
 use Rattle.inp_script.specs.declared.role.client.Turn.TheVariants.{GoesOn, Ends}
-use Rattle.inp_script.specs.Client.{Going, goes_on, handed, one_less, mode_of, next_round, turn_after}
+use Rattle.inp_script.specs.Client.{LineProgress, goes_on, handed, one_less, mode_of, next_round, turn_after}
 use Rattle.inp_script.specs.Client.{on_turn, rounds}
 use Rattle.inp_script.specs.Progress.{turn_of, IsPatient, IsAnew}
 use Rattle.inp_script.specs.Rounds.{most_of, less_by, job_after_run, HandsRun, IsAdvanced}
@@ -32,7 +32,8 @@ mode-plain : (skips : Bool) (phase : Phase) → phase ≡ Plain → mode_of skip
 mode-plain true phase h = cc h
 mode-plain false phase h = rw h
 
-next-handed : (d : Description) (skips : Bool) (r : Reading) (t : Taken) (q : List Taken) → r.phase ≡ Plain
+next-handed : (d : Description) (skips : Bool) (r : ReaderState) (t : Taken) (q : List Taken)
+    → r.phase ≡ Plain
     → r.queue ≡ t ∷ q → next_talk d (mode_of skips r.phase) r ≡ finish (hand_out_event r t q)
 next-handed d skips r t q plain queue = rw mode-plain (next-queued d r t q plain queue)
 
@@ -47,13 +48,13 @@ after-event wait left agains j t q =
     let view = view_after_event j.reading.view t.event in
     cond_both (is_dropped t.event) (Dropped t, record j.reading { queue = q; view = view; phase = Needed })
     (Success t, record j.reading { queue = q; view = view })
-    (λ (o : Next × Reading). turn_after wait left agains o.0 (record j { reading = o.1 })
+    (λ (o : Next × ReaderState). turn_after wait left agains o.0 (record j { reading = o.1 })
     ≡ handed (one_less left) (record j { reading = o.1; sight = j.sight ++ Took t ∷ [] }))
     (λ lost. refl) (λ kept. refl)
 
 -- The events of a run, one after another
 
-run-nothing : (r : Reading) → after_run r [] ≡ r
+run-nothing : (r : ReaderState) → after_run r [] ≡ r
 unfolding view_after_events
 run-nothing r = refl
 
@@ -66,13 +67,13 @@ left-more count None = refl
 left-more count (Some n) = let same : (n - 1) - count ≡ n - suc count = omega arith in rw same
 
 -- a run of one event more
-run-event : (r : Reading) (t : Taken) (q run : List Taken) → r.queue ≡ t ∷ q → is_dropped t.event ≡ false
+run-event : (r : ReaderState) (t : Taken) (q run : List Taken) → r.queue ≡ t ∷ q → is_dropped t.event ≡ false
     → after_run (hand_out_event r t q).1 run ≡ after_run r (t ∷ run)
 unfolding view_after_events
 run-event r t q run queue kept = rw (kept, queue)
 
 -- and one whose only event tells of a loss
-run-loss : (r : Reading) (t : Taken) (q : List Taken) → r.queue ≡ t ∷ q → is_dropped t.event ≡ true
+run-loss : (r : ReaderState) (t : Taken) (q : List Taken) → r.queue ≡ t ∷ q → is_dropped t.event ≡ true
     → (hand_out_event r t q).1 ≡ after_run r (t ∷ [])
 unfolding view_after_events
 run-loss r t q queue lost = rw (lost, queue)
@@ -138,7 +139,7 @@ module _ (d : Description) (wait : Option Waiting) (skips : Bool) where
     from-event most t q left agains j plain queue rest =
         let more : List Taken = first_run most q in
         let k : Job = with_event j t q in
-        let here : Going = record { job = j; left = left; agains = agains } in
+        let here : LineProgress = record { job = j; left = left; agains = agains } in
         cond_both (is_dropped t.event) [] more
         (λ (ts : List Taken). Takes left j (t ∷ ts) (rounds d wait skips (length (t ∷ ts) + n) here))
         (λ lost.
@@ -190,7 +191,7 @@ module _ (d : Description) (wait : Option Waiting) (skips : Bool) where
         (rounds d wait skips (length (queued_run most j.reading) + n)
         (record { job = j; left = left; agains = agains }))
     queued-rounds most left agains j fits =
-        let here : Going = record { job = j; left = left; agains = agains } in
+        let here : LineProgress = record { job = j; left = left; agains = agains } in
         cond_both (is_plain_phase j.reading.phase) (first_run most j.reading.queue) []
         (λ ts. 1 ≤ length ts → Takes left j ts (rounds d wait skips (length ts + n) here))
         (λ plain. first-rounds most _ left agains j (is-plain _ plain) refl fits)
@@ -218,7 +219,7 @@ advanced-run told d wait skips left agains old new turn h =
     }
 
 -- as many as are queued were handed out and noted
-pub hands-run : (left : Option ℕ) (r s : Reading) (old new : Notes) (run : List Taken) (count : ℕ)
+pub hands-run : (left : Option ℕ) (r s : ReaderState) (old new : Notes) (run : List Taken) (count : ℕ)
     (turn : KeptTurn) → run ≡ queued_run (most_of left) r → count ≡ length run → 1 ≤ count
     → s ≡ after_run r (queued_run count r) → new ≡ record old { sight = old.sight ++ map taken_sight run }
     → ((j : Job) → handed (less_by count left) j ≡ turn_of turn j) → IsPatient turn → IsAnew turn
@@ -241,7 +242,7 @@ held_less : (lost : Bool) (phase : Phase) (left : List Event)
 held_less true phase left = omega arith
 held_less false phase left = omega arith
 
-effort-run : (told : EvdevView) (most : ℕ) (r : Reading) → 1 ≤ length (queued_run most r)
+effort-run : (told : EvdevView) (most : ℕ) (r : ReaderState) → 1 ≤ length (queued_run most r)
     → effort told (after_run r (queued_run most r)) < effort told r
 unfolding effort
 effort-run told most r some =

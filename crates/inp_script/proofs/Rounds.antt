@@ -7,13 +7,14 @@ use Rattle.inp_script.proofs.Common.{Description, EvdevView, Call, Waiting, Job,
 use Rattle.inp_script.proofs.Common.{finish, LeadsTo, EndsWith}
 use Rattle.inp_model.proofs.Leaves.{AreCalls-append}
 use Rattle.inp_reader.proofs.Talks.{LeadsTo-append, LeadsTo-and_then}
-use Rattle.inp_script.specs.Client.{Going, Turn, goes_on, ends_with, is_done, next_round, on_turn, rounds}
+use Rattle.inp_script.specs.Client.{LineProgress, Turn, goes_on, ends_with, is_done, next_round, on_turn}
+use Rattle.inp_script.specs.Client.{rounds}
 use Rattle.inp_script.specs.Client.{hand_talk}
 use Rattle.inp_script.proofs.TalkCalls.{holds-nothing, begins-first}
 
 module _ (d : Description) (wait : Option Waiting) (skips : Bool) where
   -- so many rounds were made, and the line goes on from here
-  pub record Passed (before now : EvdevView) (start here : Going) : Type 0 where
+  pub record Passed (before now : EvdevView) (start here : LineProgress) : Type 0 where
     -- how many rounds were made
     pub count : ℕ
     -- the calls of those rounds
@@ -25,7 +26,7 @@ module _ (d : Description) (wait : Option Waiting) (skips : Bool) where
     pub are_calls : AreCalls before now calls
 
   -- before the first round no call was made
-  pub passed-none : (told : EvdevView) (start : Going) → Passed told told start start
+  pub passed-none : (told : EvdevView) (start : LineProgress) → Passed told told start start
   unfolding LeadsTo AreCalls
   passed-none told start = record {
     count = 0;
@@ -35,7 +36,7 @@ module _ (d : Description) (wait : Option Waiting) (skips : Bool) where
   }
 
   -- one round more, and what follows it
-  one_round : (here : Going) (turn : Turn) (n : ℕ) (calls : List Call)
+  one_round : (here : LineProgress) (turn : Turn) (n : ℕ) (calls : List Call)
       → EndsWith (next_round d wait skips here) calls turn
       → LeadsTo (rounds d wait skips (suc n) here) calls (on_turn (rounds d wait skips n) turn)
   unfolding rounds
@@ -43,7 +44,7 @@ module _ (d : Description) (wait : Option Waiting) (skips : Bool) where
       LeadsTo-and_then (next_round d wait skips here) (finish turn) (on_turn (rounds d wait skips n)) calls h
 
   -- one call of a reader, in which it was asked once
-  pub advanced-round : (before after : EvdevView) (here : Going) (turn : Turn)
+  pub advanced-round : (before after : EvdevView) (here : LineProgress) (turn : Turn)
       → Holds before after (next_round d wait skips here) turn
       → IsAdvanced before after d wait skips here turn
   advanced-round before after here turn h = record {
@@ -55,14 +56,14 @@ module _ (d : Description) (wait : Option Waiting) (skips : Bool) where
   }
 
   -- the first calls of a round are those of so many rounds
-  pub begun-round : (before after : EvdevView) (here : Going)
+  pub begun-round : (before after : EvdevView) (here : LineProgress)
       → Begins before after (next_round d wait skips here)
       → (n : ℕ) × Begins before after (rounds d wait skips n here)
   unfolding rounds
   begun-round before after here h = (1, begins-first before after _ _ h)
 
   -- the reader was asked or handed out a run: its rounds and calls follow those before
-  pub passed-more : (before between after : EvdevView) (start here next : Going)
+  pub passed-more : (before between after : EvdevView) (start here next : LineProgress)
       → Passed before between start here → IsAdvanced between after d wait skips here (goes_on next)
       → Passed before after start next
   passed-more before between after start here next s h = record {
@@ -75,7 +76,7 @@ module _ (d : Description) (wait : Option Waiting) (skips : Bool) where
     are_calls = AreCalls-append before between after s.calls h.calls s.are_calls h.are_calls;
   }
 
-  passed-last : (before between after : EvdevView) (start here : Going) (j : Job)
+  passed-last : (before between after : EvdevView) (start here : LineProgress) (j : Job)
       → (s : Passed before between start here)
       → (h : IsAdvanced between after d wait skips here (ends_with j))
       → Holds before after (rounds d wait skips (s.count + h.count) start) (Some j)
@@ -91,7 +92,8 @@ module _ (d : Description) (wait : Option Waiting) (skips : Bool) where
   -- a line that has events to hand out goes by rounds, and one that has none makes no call
 
   -- a line with events to hand out goes by rounds, and the last of them ended it
-  pub hands_out-last : (before between after : EvdevView) (left : Option ℕ) (old new : Job) (here : Going)
+  pub hands_out-last : (before between after : EvdevView) (left : Option ℕ) (old new : Job)
+      (here : LineProgress)
       → is_done left ≡ false → Passed before between (record { job = old; left = left; agains = 0 }) here
       → IsAdvanced between after d wait skips here (ends_with new)
       → HandsOut before after d wait skips left old new
@@ -110,12 +112,12 @@ module _ (d : Description) (wait : Option Waiting) (skips : Bool) where
 
   -- so many rounds were made, and of the next ones the first calls
   pub hands_out-begun : (kept : Description) (before between after : EvdevView) (left : Option ℕ) (old : Job)
-      (here : Going) → kept ≡ d → is_done left ≡ false
+      (here : LineProgress) → kept ≡ d → is_done left ≡ false
       → Passed before between (record { job = old; left = left; agains = 0 }) here
       → (k : ℕ) × Begins between after (rounds kept wait skips k here)
       → (n : ℕ) × Begins before after (hand_talk d wait skips left n old)
   hands_out-begun kept before between after left old here same some s (k, h) =
-      let start : Going = record { job = old; left = left; agains = 0 } in
+      let start : LineProgress = record { job = old; left = left; agains = 0 } in
       let more : Begins between after (rounds d wait skips k here) = rw same at h in (
         s.count + k,
         rw some (record {

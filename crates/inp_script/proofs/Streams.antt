@@ -5,7 +5,7 @@ use Rattle.std.proofs.Common.{refl, Bool, true, false, if◌then◌else◌, Opti
 use Rattle.std.proofs.lemmas.Bool.Decides.{nat_tests}
 use Rattle.std.proofs.lemmas.Bool.{cond_both}
 use Rattle.inp_script.specs.Notes.{IsNoted, AreMade, notes_after, AreNoted}
-use Rattle.inp_script.proofs.Common.{Stamped, Step, Reply, EvdevView, Answer, Call, Reading, Notes, Holds}
+use Rattle.inp_script.proofs.Common.{Stamped, Step, Reply, EvdevView, Answer, Call, ReaderState, Notes, Holds}
 use Rattle.inp_script.proofs.Common.{Begins, Job, Stick, job_of, job_with, IsStepMade}
 use Rattle.inp_script.proofs.Common.{AreCalls, Talk, finish, LeadsTo, after_call, call_talk, call_if}
 use Rattle.inp_script.proofs.Common.{stream_talk}
@@ -15,13 +15,13 @@ use Rattle.inp_reader.proofs.Talks.{LeadsTo-append}
 use Rattle.inp_script.proofs.TalkCalls.{holds-one, begins-one, begins-same}
 
 -- a call that was noted leaves the job that the definition says
-pub noted-job : (before after : EvdevView) (x : Step) (reply : Reply) (old new : Notes) (r : Reading)
+pub noted-job : (before after : EvdevView) (x : Step) (reply : Reply) (old new : Notes) (r : ReaderState)
     (stick : Stick) (n : IsNoted before after x reply old new)
     → after_call (job_with r stick old) x n.answer ≡ job_with r stick new
 noted-job before after x reply old new r stick n = rw n.noted
 
 -- the talk of one call makes that call, and its job is the one that the note leaves
-pub holds-noted : (before after : EvdevView) (x : Step) (reply : Reply) (old new : Notes) (r : Reading)
+pub holds-noted : (before after : EvdevView) (x : Step) (reply : Reply) (old new : Notes) (r : ReaderState)
     (stick : Stick) → IsNoted before after x reply old new
     → Holds before after (call_talk (job_with r stick old) x) (Some (job_with r stick new))
 holds-noted before after x reply old new r stick n =
@@ -43,7 +43,7 @@ abbrev job_after : List Call → Job → Job
 job_after [] j = j
 job_after (call ∷ calls) j = job_after calls (after_call j call.step call.answer)
 
-noted-jobs : (calls : List Call) (r : Reading) (notes : Notes)
+noted-jobs : (calls : List Call) (r : ReaderState) (notes : Notes)
     → job_after calls (job_of r notes) ≡ job_of r (notes_after calls notes)
 noted-jobs [] r notes = refl
 noted-jobs (call ∷ calls) r notes = noted-jobs calls r (notes_after (call ∷ []) notes)
@@ -87,7 +87,7 @@ pub record IsInjected (before after : EvdevView) (stream rest : List Stamped) (o
   -- the calls made so far
   pub calls : List Call
   -- for any reader, the calls lead from the whole stream to its rest
-  pub leads : (r : Reading)
+  pub leads : (r : ReaderState)
       → LeadsTo (stream_talk stream (job_of r old)) calls (stream_talk rest (job_of r new))
   -- the calls were made, one after another
   pub are_calls : AreCalls before after calls
@@ -103,7 +103,7 @@ injected-none told stream notes h = record { calls = []; leads = λ r. refl; are
 -- as many more as a call injected, whether they were noted or not
 module _ (before between after : EvdevView) (stream rest events later : List Stamped) (old mid : Notes)
     (s : IsInjected before between stream rest old mid) (is : rest ≡ events ++ later) where
-  more_leads : (r : Reading) (m : AreMade between after events)
+  more_leads : (r : ReaderState) (m : AreMade between after events)
       → LeadsTo (stream_talk stream (job_of r old)) (s.calls ++ calls_of (m.from + m.count) m.from events)
       (go_on (nat_le (length events) m.count) later
       (job_of r (notes_after (calls_of (m.from + m.count) m.from events) mid)))
@@ -115,7 +115,7 @@ module _ (before between after : EvdevView) (stream rest events later : List Sta
       calls (s.leads r)
       (rw is (rw noted-jobs at (some-leads limit m.count m.from events later (job_of r mid) refl)))
 
-  noted_leads : (r : Reading) (all : Bool) (new : Notes) (n : AreNoted between after events all mid new)
+  noted_leads : (r : ReaderState) (all : Bool) (new : Notes) (n : AreNoted between after events all mid new)
       → LeadsTo (stream_talk stream (job_of r old))
       (s.calls ++ calls_of (n.made.from + n.made.count) n.made.from events) (go_on all later (job_of r new))
   noted_leads r all new n = rw (n.all_entered, n.noted) (more_leads r n.made)
@@ -131,7 +131,7 @@ module _ (before between after : EvdevView) (stream rest events later : List Sta
   }
 
   -- an event was refused, and the stream ends there
-  pub injected-refused : (new : Notes) → AreNoted between after events false mid new → (r : Reading)
+  pub injected-refused : (new : Notes) → AreNoted between after events false mid new → (r : ReaderState)
       → Holds before after (stream_talk stream (job_of r old)) (Some (job_of r new))
   injected-refused new n r = record {
     calls = s.calls ++ calls_of (n.made.from + n.made.count) n.made.from events;
@@ -139,7 +139,7 @@ module _ (before between after : EvdevView) (stream rest events later : List Sta
     are_calls = AreCalls-append before between after s.calls _ s.are_calls n.made.are_calls;
   }
 
-  pub injected-begun : AreMade between after events → (r : Reading)
+  pub injected-begun : AreMade between after events → (r : ReaderState)
       → Begins before after (stream_talk stream (job_of r old))
   injected-begun m r = record {
     calls = s.calls ++ calls_of (m.from + m.count) m.from events;
@@ -152,7 +152,7 @@ module _ (before between after : EvdevView) (stream rest events later : List Sta
 
 -- the calls so far are the first ones of the whole stream
 pub injected-so_far : (before after : EvdevView) (stream rest : List Stamped) (old new : Notes)
-    → IsInjected before after stream rest old new → (r : Reading)
+    → IsInjected before after stream rest old new → (r : ReaderState)
     → Begins before after (stream_talk stream (job_of r old))
 injected-so_far before after stream rest old new s r =
     record {
@@ -164,7 +164,7 @@ injected-so_far before after stream rest old new s r =
 
 -- nothing is left of the stream, so its calls are all made
 pub injected-all : (before after : EvdevView) (stream rest : List Stamped) (old new : Notes) → rest ≡ []
-    → IsInjected before after stream rest old new → (r : Reading)
+    → IsInjected before after stream rest old new → (r : ReaderState)
     → Holds before after (stream_talk stream (job_of r old)) (Some (job_of r new))
 unfolding stream_talk
 injected-all before after stream rest old new none s r = record {

@@ -4,7 +4,7 @@ use Rattle.std.proofs.Common.{Some, ℤ}
 use Rattle.std.proofs.lemmas.List.{take_at, length-append}
 use Rattle.inp_model.specs.Evdev.{IsEvdevCall}
 use Rattle.inp_script.specs.Line.{event_of_taken, tap_client_after, tap_call, unless_lacking}
-use Rattle.inp_script.proofs.Common.{Taken, Step, Reply, past_at, Answer, place_of, View, Reading, finish}
+use Rattle.inp_script.proofs.Common.{Taken, Step, Reply, past_at, Answer, place_of, View, ReaderState, finish}
 use Rattle.inp_script.proofs.Common.{Notes, Holds, Begins, Job, lacks_memory, stop_after}
 use Rattle.inp_script.proofs.Common.{EvdevView, IsCall, after_tap_call, job_of, count_taken}
 use Rattle.inp_recon.specs.View.{view_after_answer, view_after_events}
@@ -61,7 +61,7 @@ module _ (before after : EvdevView) (x : Step) (reply : Reply) (out new_out : Li
   }
 
 -- a call of a tap that was noted
-pub tap-noted : (before after : EvdevView) (x : Step) (reply : Reply) (old new : Notes) (r s : Reading)
+pub tap-noted : (before after : EvdevView) (x : Step) (reply : Reply) (old new : Notes) (r s : ReaderState)
     (view : View) (out events : List Taken) → IsTapCall before after x reply r.view view out
     → lacks_memory reply ≡ false → events ≡ take (count_taken reply) out
     → s ≡ record r { client = tap_client_after x reply r.client; view = view }

@@ -10,7 +10,7 @@ use Rattle.inp_reader.specs.declared.next.Next.TheVariants.{Success, Dropped, Sy
 use Rattle.inp_script.specs.declared.role.client.Progress.{Progress}
 use Rattle.inp_script.specs.declared.role.client.Turn.{Turn as KeptTurn}
 use Rattle.inp_script.specs.declared.role.client.Turn.TheVariants.{GoesOn, Ends}
-use Rattle.inp_script.specs.Client.{Going, goes_on, handed, one_less, is_done, patience, after_again}
+use Rattle.inp_script.specs.Client.{LineProgress, goes_on, handed, one_less, is_done, patience, after_again}
 use Rattle.inp_script.specs.Client.{turn_after, mode_of}
 use Rattle.inp_script.specs.Effort.{idle_of, total_effort, Shrinks}
 
@@ -20,7 +20,7 @@ mode_of-busy true Plain = refl
 mode_of-busy false Plain = refl
 mode_of-busy _ _ = refl
 
-same_agains : (g h : Going) → goes_on g ≡ goes_on h → h.agains ≡ g.agains
+same_agains : (g h : LineProgress) → goes_on g ≡ goes_on h → h.agains ≡ g.agains
 same_agains g h e = let same : g ≡ h = cc in rw (← same)
 
 -- a line that goes on after an event was handed out counts answers Again anew
@@ -37,7 +37,7 @@ again-waits : (patient : Option ℕ) (wait : Option Waiting) (left : Option ℕ)
     → (progress.agains ≡ agains) × (agains < idle_of wait)
 again-waits None wait left agains at ends j k progress idle h = absurd cc
 again-waits (Some n) wait left agains at ends j k progress idle h =
-    let here : Going = record { job = j; left = left; agains = agains } in
+    let here : LineProgress = record { job = j; left = left; agains = agains } in
     (cond_both (nat_le n agains) _ _
     (λ x. x ≡ goes_on (going progress k) → (progress.agains ≡ agains) × (agains < idle_of wait))
     (λ _ is. absurd cc)

@@ -10,7 +10,7 @@ use Rattle.inp_reader.specs.declared.phase.Phase.TheVariants.{Plain, Needed, Han
 use Rattle.inp_reader.specs.declared.next.Next.{Next}
 use Rattle.inp_reader.specs.declared.next.Next.TheVariants.{Success, Dropped, Sync, Again as NothingVisible, Synced, NoDevice, Closed, Full as FullHistory}
 use Rattle.inp_reader.specs.declared.started.Started.{Started}
-use Rattle.inp_reader.specs.Reader.{Reading, start_talk, next_talk, with_sync_needed}
+use Rattle.inp_reader.specs.Reader.{ReaderState, start_talk, next_talk, with_sync_needed}
 use Rattle.inp_reader.specs.Talk.{Talk, finish, and_then}
 use Rattle.inp_script.specs.declared.sight.Sight.{Sight}
 use Rattle.inp_script.specs.declared.sight.Sight.TheVariants.{Took, Made, Again}
@@ -24,14 +24,14 @@ use Rattle.inp_script.specs.Sight.{noted, stop_after_start, start_lacks_memory}
 -- Starting
 
 -- a job after a start of its reader
-abbrev pub job_after_start : Started → Reading → List Sight → Job
+abbrev pub job_after_start : Started → ReaderState → List Sight → Job
 job_after_start started reading sight = record { reading = reading; sight = sight; stop = stop_after_start started; stick = no_stick }
 
 -- it is given up where memory ran out
 abbrev pub unless_start_lacks : Started → Job → Option Job
 unless_start_lacks started j = if start_lacks_memory started then None else Some j
 
-abbrev pub start_ends : (Started × Reading) × List Sight → Option Job
+abbrev pub start_ends : (Started × ReaderState) × List Sight → Option Job
 start_ends o = unless_start_lacks o.0.0 (job_after_start o.0.0 o.0.1 o.1)
 
 unfoldable pub start_job : Description → Job → Talk (Option Job)
@@ -40,7 +40,7 @@ start_job d j = and_then (noted (start_talk d j.reading) j.sight) (λ o. finish 
 -- Being handed events
 
 -- a job in the midst of a line that hands out events
-pub record Going : Type 0 where
+pub record LineProgress : Type 0 where
   pub job : Job
   -- how many events the line is still to hand out, if it has a number
   pub left : Option ℕ
@@ -49,7 +49,7 @@ pub record Going : Type 0 where
 
 -- the line goes on, or ends with its job so
 pub data Turn : Type 0 where
-  goes_on : Going → Turn
+  goes_on : LineProgress → Turn
   ends_with : Job → Turn
 
 -- a line that skips what the reader makes itself asks in mode Normal; another one goes by the phase
@@ -102,20 +102,20 @@ turn_after wait left agains NoDevice j = ends_with j
 turn_after wait left agains Closed j = ends_with j
 turn_after wait left agains (FullHistory at) j = ends_with (with_stop j (Full at))
 
-abbrev pub after_next : Option Waiting → Going → (Next × Reading) × List Sight → Turn
+abbrev pub after_next : Option Waiting → LineProgress → (Next × ReaderState) × List Sight → Turn
 after_next wait g o = turn_after wait g.left g.agains o.0.0 (record g.job { reading = o.0.1; sight = o.1 })
 
 -- asks the reader once for its next event
-unfoldable pub next_round : Description → Option Waiting → Bool → Going → Talk Turn
+unfoldable pub next_round : Description → Option Waiting → Bool → LineProgress → Talk Turn
 next_round d wait skips g =
     and_then (noted (next_talk d (mode_of skips g.job.reading.phase) g.job.reading) g.job.sight) (λ o. finish (after_next wait g o))
 
-abbrev pub on_turn : (Going → Talk (Option Job)) → Turn → Talk (Option Job)
+abbrev pub on_turn : (LineProgress → Talk (Option Job)) → Turn → Talk (Option Job)
 on_turn go_on (goes_on g) = go_on g
 on_turn go_on (ends_with j) = finish (Some j)
 
 -- asks it until the line ends, and at most so often
-unfoldable pub rounds : Description → Option Waiting → Bool → ℕ → Going → Talk (Option Job)
+unfoldable pub rounds : Description → Option Waiting → Bool → ℕ → LineProgress → Talk (Option Job)
 rounds d wait skips zero g = finish None
 rounds d wait skips (suc n) g = and_then (next_round d wait skips g) (on_turn (rounds d wait skips n))
 

@@ -28,7 +28,7 @@ use Rattle.inp_script.specs.declared.waiting.Waiting.{Waiting}
 use Rattle.inp_script.specs.DoneLine.{line_talk}
 use Rattle.inp_script.specs.Job.{Job, first_job}
 use Rattle.inp_feedback.specs.Feeds.{Feeding}
-use Rattle.inp_script.specs.Owner.{Owning, FeedsLine, first_owning}
+use Rattle.inp_script.specs.Owner.{OwnerState, FeedsLine, first_owning}
 
 -- a device, and the jobs of a source and of another actor
 pub record TwoJobs : Type 0 where
@@ -225,13 +225,13 @@ abbrev pub lit : List UEntry
 lit = StepMade (ToWrite 0 (caps_lock (pos 1)) 0) ∷ StepMade ToOpen ∷ []
 
 -- an owner that took the event, and then none
-abbrev pub told_twice : Owning
+abbrev pub told_twice : OwnerState
 told_twice = record { fed = Answer (FeedTook 2 1) ∷ Given (caps_lock (pos 1)) ∷ Answer (FeedTook 2 0) ∷ []; stop = None }
 
 -- The first line of an owner takes the event, and its second one none.
 abbrev pub OwnerTakesWhatWasSent : Type 0
 OwnerTakesWhatWasSent =
-    let told_once : Owning = record { fed = Answer (FeedTook 2 1) ∷ Given (caps_lock (pos 1)) ∷ []; stop = None } in
+    let told_once : OwnerState = record { fed = Answer (FeedTook 2 1) ∷ Given (caps_lock (pos 1)) ∷ []; stop = None } in
     FeedsLine feeds_kept lit (CallMade 1 ∷ lit) 15 first_owning told_once
     × FeedsLine feeds_kept (CallMade 1 ∷ lit) (CallMade 0 ∷ CallMade 1 ∷ lit) 15 told_once told_twice
 
@@ -239,5 +239,5 @@ OwnerTakesWhatWasSent =
 abbrev pub OwnerStopsAtTheLimit : Type 0
 OwnerStopsAtTheLimit =
     let kept : List UEntry = CallMade 0 ∷ CallMade 1 ∷ lit in
-    let stopped : Owning = record { fed = told_twice.fed ++ Answer (FeedFull 2) ∷ []; stop = Some (Full 2) } in
+    let stopped : OwnerState = record { fed = told_twice.fed ++ Answer (FeedFull 2) ∷ []; stop = Some (Full 2) } in
     FeedsLine feeds_kept kept kept 15 told_twice stopped × FeedsLine feeds_kept kept kept 15 stopped stopped

@@ -4,18 +4,18 @@ use Rattle.inp_model.specs.Description.{Description}
 use Rattle.inp_actors.specs.declared.role.Role.{Role}
 use Rattle.inp_actors.specs.declared.role.Role.TheVariants.{Joy}
 use Rattle.inp_joy.specs.Codes.{startup_len}
-use Rattle.inp_joy.specs.Joy.{Joying}
+use Rattle.inp_joy.specs.Joy.{JoystickState}
 use Rattle.inp_joy.specs.Picture.{PictureView, blank_picture}
 use Rattle.inp_recon.specs.declared.view.View.{View}
 use Rattle.inp_recon.specs.View.{first_view}
 use Rattle.inp_reader.specs.declared.phase.Phase.TheVariants.{Plain}
 use Rattle.inp_reader.specs.declared.reader.TheConstants.{NO_CLIENT}
-use Rattle.inp_reader.specs.Reader.{Reading}
+use Rattle.inp_reader.specs.Reader.{ReaderState}
 use Rattle.inp_script.specs.declared.fed_sight.FedSight.{FedSight}
 use Rattle.inp_script.specs.declared.sight.Sight.{Sight}
 use Rattle.inp_script.specs.declared.stop.Stop.{Stop}
 use Rattle.inp_script.specs.declared.stop.Stop.TheVariants.{Finished}
-use Rattle.inp_script.specs.Owner.{Owning}
+use Rattle.inp_script.specs.Owner.{OwnerState}
 
 -- what a joystick client keeps besides its reader
 pub record Stick : Type 0 where
@@ -36,7 +36,7 @@ first_stick _ d = no_stick
 pub record Job : Type 0 where
   -- The client that it reads as, and what the device is, as far as it saw. What a reader keeps besides is there for the
   -- role Client alone.
-  pub reading : Reading
+  pub reading : ReaderState
   -- what it saw, in order
   pub sight : List Sight
   -- why it stopped, if it did
@@ -44,7 +44,7 @@ pub record Job : Type 0 where
   -- what a joystick client keeps besides, there for the role Joy alone
   pub stick : Stick
 
-abbrev pub first_reading : Description → Reading
+abbrev pub first_reading : Description → ReaderState
 first_reading d = record { client = NO_CLIENT; queue = []; view = first_view d; phase = Plain; left = [] }
 
 -- before its first line
@@ -52,10 +52,10 @@ abbrev pub first_job : Role → Description → Job
 first_job role d = record { reading = first_reading d; sight = []; stop = None; stick = first_stick role d }
 
 -- a job as a joystick client, and with another one
-abbrev pub joying_of : Job → Joying
+abbrev pub joying_of : Job → JoystickState
 joying_of j = record { reading = j.reading; handed = j.stick.handed; picture = j.stick.picture }
 
-abbrev pub with_joying : Job → Joying → Job
+abbrev pub with_joying : Job → JoystickState → Job
 with_joying j k = record j { reading = k.reading; stick = record { handed = k.handed; picture = k.picture } }
 
 -- what an actor is seen as
@@ -67,7 +67,7 @@ pub record ActorView : Type 0 where
   pub description : Description
   pub job : Job
   -- what an owner keeps, there for the role Owner alone
-  pub owning : Owning
+  pub owning : OwnerState
 
 -- the result of a job
 pub record JobView : Type 0 where

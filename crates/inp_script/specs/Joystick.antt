@@ -7,7 +7,7 @@ use Rattle.inp_joy.specs.declared.joy_read.JoyRead.{JoyRead}
 use Rattle.inp_joy.specs.declared.joy_read.JoyRead.TheVariants.{Record as HandedOut, Frame, Again, NoDevice, Closed, Full as FullHistory, More}
 use Rattle.inp_joy.specs.declared.joy_record.JoyRecord.{JoyRecord}
 use Rattle.inp_joy.specs.JoyRecord.{bytes_of_record}
-use Rattle.inp_joy.specs.Joy.{Joying, JoyAnswer, joy_start, turns}
+use Rattle.inp_joy.specs.Joy.{JoystickState, JoyAnswer, joy_start, turns}
 use Rattle.inp_reader.specs.declared.started.Started.{Started}
 use Rattle.inp_reader.specs.Talk.{Talk, finish, and_then}
 use Rattle.inp_script.specs.declared.sight.Sight.{Sight}
@@ -21,7 +21,7 @@ use Rattle.inp_script.specs.Sight.{noted, stop_after_start}
 -- Starting
 
 -- a job after a start of its joystick client; it is given up where memory ran out
-abbrev pub after_joy_start : Job → (Started × Joying) × List Sight → Option Job
+abbrev pub after_joy_start : Job → (Started × JoystickState) × List Sight → Option Job
 after_joy_start j o = unless_start_lacks o.0.0 (record (with_joying j o.0.1) { sight = o.1; stop = stop_after_start o.0.0 })
 
 unfoldable pub start_joystick : Description → Job → Talk (Option Job)

@@ -13,7 +13,7 @@ use Rattle.inp_actors.specs.declared.command.Command.TheVariants.{Event as ToEve
 use Rattle.inp_recon.specs.declared.view.View.{View}
 use Rattle.inp_recon.specs.View.{view_after_answer, view_after_events}
 use Rattle.inp_reader.specs.declared.reader.TheConstants.{NO_CLIENT}
-use Rattle.inp_reader.specs.Reader.{Reading}
+use Rattle.inp_reader.specs.Reader.{ReaderState}
 use Rattle.inp_reader.specs.Talk.{Talk, finish, ask}
 use Rattle.inp_script.specs.declared.stop.Stop.{Stop}
 use Rattle.inp_script.specs.Job.{Job}
@@ -108,7 +108,7 @@ abbrev pub view_after_call : View → Step → Answer → View
 view_after_call view x answer =
     view_after_events (view_after_answer view x answer.reply answer.cells) (map event_of_taken answer.events)
 
-abbrev pub reading_after_call : Reading → Step → Answer → Reading
+abbrev pub reading_after_call : ReaderState → Step → Answer → ReaderState
 reading_after_call r x answer = record r { client = tap_client_after x answer.reply r.client; view = view_after_call r.view x answer }
 
 -- a job after a call of a tap

@@ -9,24 +9,24 @@ use Rattle.inp_model.specs.Injection.{entered_call, calls_of}
 use Rattle.inp_model.specs.Leaves.{AreCalls}
 use Rattle.inp_model.specs.Reply.{Answer}
 use Rattle.inp_model.specs.Run.{Call}
-use Rattle.inp_joy.specs.Joy.{Joying}
+use Rattle.inp_joy.specs.Joy.{JoystickState}
 use Rattle.inp_reader.specs.declared.call_made.CallMade.{CallMade}
 use Rattle.inp_reader.specs.declared.started.Started.{Started}
-use Rattle.inp_reader.specs.Reader.{Reading}
+use Rattle.inp_reader.specs.Reader.{ReaderState}
 use Rattle.inp_script.specs.declared.notes.Notes.{Notes}
 use Rattle.inp_script.specs.Job.{Job, Stick, no_stick}
 use Rattle.inp_script.specs.Sight.{made_sight, sight_of_call, stop_after, stop_after_start, start_lacks_memory}
 
 -- a job by what it reads as, what it keeps of a joystick, and what is noted of it
-abbrev pub job_with : Reading → Stick → Notes → Job
+abbrev pub job_with : ReaderState → Stick → Notes → Job
 job_with r stick notes = record { reading = r; sight = notes.sight; stop = notes.stop; stick = stick }
 
 -- that of a role which keeps nothing of a joystick
-abbrev pub job_of : Reading → Notes → Job
+abbrev pub job_of : ReaderState → Notes → Job
 job_of r notes = job_with r no_stick notes
 
 -- that of a joystick
-abbrev pub joy_job : Joying → Notes → Job
+abbrev pub joy_job : JoystickState → Notes → Job
 joy_job k notes = job_with k.reading (record { handed = k.handed; picture = k.picture }) notes
 
 -- how many events a reply says were read

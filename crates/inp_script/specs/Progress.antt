@@ -3,10 +3,10 @@ use Rattle.std.specs.Prelude.{◌≡◌, ◌^◌, ◌<◌}
 use Rattle.inp_script.specs.declared.role.client.Progress.{Progress}
 use Rattle.inp_script.specs.declared.role.client.Turn.{Turn as KeptTurn}
 use Rattle.inp_script.specs.declared.role.client.Turn.TheVariants.{GoesOn, Ends}
-use Rattle.inp_script.specs.Client.{Going, Turn, goes_on, ends_with}
+use Rattle.inp_script.specs.Client.{LineProgress, Turn, goes_on, ends_with}
 use Rattle.inp_script.specs.Job.{Job}
 
-abbrev pub going : Progress → Job → Going
+abbrev pub going : Progress → Job → LineProgress
 going progress j = record { job = j; left = progress.left; agains = progress.agains }
 
 abbrev pub turn_of : KeptTurn → Job → Turn

@@ -6,14 +6,14 @@ use Rattle.inp_actors.specs.declared.role.Role.{Role}
 use Rattle.inp_actors.specs.declared.role.Role.TheVariants.{Source as SourceRole, Client as ClientRole, Tap as TapRole, Joy as JoyRole, Owner as OwnerRole}
 use Rattle.inp_reader.specs.declared.phase.Phase.TheVariants.{Plain}
 use Rattle.inp_reader.specs.declared.reader.TheConstants.{NO_CLIENT}
-use Rattle.inp_reader.specs.Reader.{Reading}
+use Rattle.inp_reader.specs.Reader.{ReaderState}
 use Rattle.inp_script.specs.declared.notes.Notes.{Notes}
 use Rattle.inp_script.specs.declared.role.owner.Owner as owner
 use Rattle.inp_script.specs.declared.role.state.RoleState.{RoleState}
 use Rattle.inp_script.specs.declared.role.state.RoleState.TheVariants.{Source, Tap, Client, Joy, Owner}
 use Rattle.inp_script.specs.Job.{Job, Stick, no_stick, first_reading}
 use Rattle.inp_script.specs.Notes.{job_with}
-use Rattle.inp_script.specs.Owner.{Owning, first_owning}
+use Rattle.inp_script.specs.Owner.{OwnerState, first_owning}
 use Rattle.inp_script.specs.Tap.{tap_reading, IsSizedTap}
 
 abbrev pub role_of : RoleState → Role
@@ -32,7 +32,7 @@ role_description (Joy joy) = joy.description
 role_description (Owner caps owner) = caps
 
 -- the client that it reads as; an owner reads as none
-abbrev pub role_reading : RoleState → Reading
+abbrev pub role_reading : RoleState → ReaderState
 role_reading (Source caps view) = record { client = NO_CLIENT; queue = []; view = view; phase = Plain; left = [] }
 role_reading (Tap caps tap) = tap_reading tap
 role_reading (Client reader) = reader.reading
@@ -44,11 +44,11 @@ abbrev pub stick_of : RoleState → Stick
 stick_of (Joy joy) = record { handed = joy.joying.handed; picture = joy.joying.picture }
 stick_of _ = no_stick
 
-abbrev pub owning_in : owner.Owner → Owning
+abbrev pub owning_in : owner.Owner → OwnerState
 owning_in owner = record { fed = owner.fed; stop = owner.stop }
 
 -- what it keeps of an owner
-abbrev pub owning_of : RoleState → Owning
+abbrev pub owning_of : RoleState → OwnerState
 owning_of (Owner caps owner) = owning_in owner
 owning_of _ = first_owning
 

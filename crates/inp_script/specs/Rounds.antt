@@ -10,7 +10,7 @@ use Rattle.inp_reader.specs.Reader.{queued_run, after_run}
 use Rattle.inp_reader.specs.Talk.{LeadsTo}
 use Rattle.inp_script.specs.declared.role.client.Turn.{Turn as KeptTurn}
 use Rattle.inp_script.specs.declared.waiting.Waiting.{Waiting}
-use Rattle.inp_script.specs.Client.{Going, Turn, handed, on_turn, rounds}
+use Rattle.inp_script.specs.Client.{LineProgress, Turn, handed, on_turn, rounds}
 use Rattle.inp_script.specs.Progress.{turn_of, IsPatient, IsAnew}
 use Rattle.inp_script.specs.Job.{Job}
 use Rattle.inp_script.specs.Sight.{taken_sight}
@@ -38,7 +38,7 @@ pub record HandsRun (left : Option ℕ) (old : Job) (turn : KeptTurn) (new : Job
   pub anew : IsAnew turn
 
 -- So many rounds were made by these calls, and the line goes on or ends so.
-pub record IsAdvanced (before after : EvdevView) (d : Description) (wait : Option Waiting) (skips : Bool) (here : Going) (turn : Turn) : Type 0 where
+pub record IsAdvanced (before after : EvdevView) (d : Description) (wait : Option Waiting) (skips : Bool) (here : LineProgress) (turn : Turn) : Type 0 where
   pub count : ℕ
   pub calls : List Call
   pub leads : (n m : ℕ) → m ≡ count + n → LeadsTo (rounds d wait skips m here) calls (on_turn (rounds d wait skips n) turn)

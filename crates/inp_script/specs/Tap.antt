@@ -10,12 +10,12 @@ use Rattle.inp_model.specs.Reply.{Answer}
 use Rattle.inp_actors.specs.declared.command.TheConstants.{READ_MAX}
 use Rattle.inp_recon.specs.declared.view.View.{View}
 use Rattle.inp_reader.specs.declared.phase.Phase.TheVariants.{Plain}
-use Rattle.inp_reader.specs.Reader.{Reading}
+use Rattle.inp_reader.specs.Reader.{ReaderState}
 use Rattle.inp_script.specs.declared.role.tap.Tap.{Tap}
 use Rattle.inp_script.specs.Line.{view_after_call}
 use Rattle.inp_script.specs.Notes.{count_taken}
 
-abbrev pub tap_reading : Tap → Reading
+abbrev pub tap_reading : Tap → ReaderState
 tap_reading t = record { client = t.client; queue = []; view = t.view; phase = Plain; left = [] }
 
 -- the view and the buffers have room for whatever is read or asked for

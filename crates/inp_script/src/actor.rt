@@ -141,7 +141,7 @@ impl Actor {
     /// After `Full` an owner has stopped. `NoMemory` comes where memory is short for what the actor saw or was told,
     /// and where an `open` was refused for want of memory. Whatever the answer, the calls that were made are the first
     /// ones of what the line asks for (`begun`). After `Ok` they are all of it (`done`).
-    pub fn act<D: Evdev + Feeds>(
+    pub fn do_line<D: Evdev + Feeds>(
         &mut self,
         dev: &mut D,
         rec: &Record,

@@ -25,13 +25,13 @@
 //! that `job_end` makes of the actor, a joystick's and an owner's apart. [`examples_of_jobs`] shows what these
 //! definitions compute on short records.
 //!
-//! [`Actor::act`] does any line of a record on a device that the actor may own: one that is an evdev and that answers
-//! feedback calls (`Feeds` of `inp_feedback`). A line of an owner makes one feedback call, with room for as many events
-//! as it asks for but for no more than ever wait. The answer and the events are noted after what the owner was told
-//! before. Where the owner had stopped, nothing is done (`OwnsLine`, `specs/ActorLine.antt`). An answer `Full` stops
-//! it. A line of any other actor makes the calls of [`Actor::line`] (`CallsLine`). Where memory ran out, an owner made
-//! one call or none, and any other actor the first calls of its talk (`BeginsToAct`). Where nobody owns the device a
-//! line of an owner is nothing: [`Actor::line`] makes no call for it. An owner ends as an [`OwnerEnd`].
+//! [`Actor::do_line`] does any line of a record on a device that the actor may own: one that is an evdev and that
+//! answers feedback calls (`Feeds` of `inp_feedback`). A line of an owner makes one feedback call, with room for as
+//! many events as it asks for but for no more than ever wait. The answer and the events are noted after what the owner
+//! was told before. Where the owner had stopped, nothing is done (`OwnsLine`, `specs/ActorLine.antt`). An answer `Full`
+//! stops it. A line of any other actor makes the calls of [`Actor::line`] (`CallsLine`). Where memory ran out, an owner
+//! made one call or none, and any other actor the first calls of its talk (`BeginsToAct`). Where nobody owns the device
+//! a line of an owner is nothing: [`Actor::line`] makes no call for it. An owner ends as an [`OwnerEnd`].
 //!
 //! A line that hands out events ends whatever the evdev answers. Each round makes a call that takes a place of the
 //! history, which is bounded, or hands out an event that was read or made before. Else it counts one answer Again of

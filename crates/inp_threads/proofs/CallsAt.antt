@@ -17,7 +17,7 @@ use Rattle.inp_port.proofs.Places.{slice_get-seam, step_places-append, step_plac
 use Rattle.inp_feedback.specs.declared.u_entry.UEntry.TheVariants.{Made, Feedback}
 use Rattle.inp_feedback.proofs.Lists.{reverse-cons}
 use Rattle.inp_uinput.proofs.ServedEntries.{steps-reverse}
-use Rattle.inp_script.specs.Owner.{Owning, first_owning}
+use Rattle.inp_script.specs.Owner.{OwnerState, first_owning}
 use Rattle.inp_runs.specs.Owner.{HasFed, HasOwned}
 use Rattle.inp_runs.proofs.owners.OwnerLaws.{ends-steps, free-goes_on, grew-free}
 
@@ -28,13 +28,13 @@ HasAllCalls (Made x ∷ kept) own = HasAllCalls kept own
 HasAllCalls (Feedback count ∷ kept) own = (1 ≤ count_by (nat_eq (length kept)) own) × HasAllCalls kept own
 
 -- before the first call
-pub no-calls : (d : Description) (view : PassView Description UEntry) (o : Owning) → view.seen ≡ []
+pub no-calls : (d : Description) (view : PassView Description UEntry) (o : OwnerState) → view.seen ≡ []
     → view.own ≡ [] → o ≡ first_owning → HasCallsAt d (reverse view.seen) view.own [] o
 unfolding HasCallsAt
 no-calls d view o seen own first = rw seen (own, refl, first)
 
 -- they were made, so the owner goes on
-pub calls-go_on : (d : Description) (kept : List UEntry) (own rooms : List ℕ) (o : Owning)
+pub calls-go_on : (d : Description) (kept : List UEntry) (own rooms : List ℕ) (o : OwnerState)
     → HasCallsAt d kept own rooms o → o.stop ≡ None
 unfolding HasCallsAt
 calls-go_on d [] own rooms o h = rw h.2
@@ -44,7 +44,7 @@ calls-go_on d (Feedback count ∷ kept) own rooms o (inr (earlier, done, before,
     rw next.told (free-goes_on d kept next.room (grew-free d kept next.room (Feedback count) next.answered))
 
 -- what others did behind them changes nothing
-pub calls-longer : (d : Description) (more kept : List UEntry) (own rooms : List ℕ) (o : Owning)
+pub calls-longer : (d : Description) (more kept : List UEntry) (own rooms : List ℕ) (o : OwnerState)
     → HasCallsAt d kept own rooms o → HasCallsAt d (more ++ kept) own rooms o
 unfolding HasCallsAt
 calls-longer d [] kept own rooms o h = h
@@ -54,7 +54,7 @@ calls-longer d (Feedback count ∷ more) kept own rooms o h = inl (calls-longer 
 -- Their places
 
 -- a call stands behind what was kept before it, so its place is within what is kept now
-pub calls-within : (d : Description) (kept : List UEntry) (own rooms : List ℕ) (o : Owning)
+pub calls-within : (d : Description) (kept : List UEntry) (own rooms : List ℕ) (o : OwnerState)
     → HasCallsAt d kept own rooms o → All (λ place. place < length kept) own
 unfolding HasCallsAt
 calls-within d [] own rooms o h = subst (All (λ place. place < 0)) (sym h.0) (All-nil (λ place. place < 0))
@@ -72,7 +72,7 @@ calls-within d (Feedback count ∷ kept) own rooms o (inr (earlier, done, before
     (omega arith))
 
 -- a place behind them is none of theirs
-pub none-behind : (d : Description) (kept : List UEntry) (own rooms : List ℕ) (o : Owning) (place : ℕ)
+pub none-behind : (d : Description) (kept : List UEntry) (own rooms : List ℕ) (o : OwnerState) (place : ℕ)
     → HasCallsAt d kept own rooms o → length kept ≤ place → count_by (nat_eq place) own ≡ 0
 unfolding HasCallsAt
 none-behind d [] own rooms o place h l = ap (count_by (nat_eq place)) h.0
@@ -115,7 +115,7 @@ call-no_step kept count =
     (slice_get-seam (reverse kept) [] (Feedback count))
 
 -- no step stands at one of them
-pub calls-no_steps : (d : Description) (kept : List UEntry) (own rooms : List ℕ) (o : Owning)
+pub calls-no_steps : (d : Description) (kept : List UEntry) (own rooms : List ℕ) (o : OwnerState)
     → HasCallsAt d kept own rooms o → step_places step_made (reverse kept) own ≡ []
 unfolding HasCallsAt
 calls-no_steps d [] own rooms o h = ap (step_places step_made []) h.0
@@ -156,7 +156,7 @@ all-earlier (Feedback count ∷ kept) earlier place l h = (
   all-earlier kept earlier place (omega (arith, l)) h.1,
 )
 
-pub all-fed : (d : Description) (kept : List UEntry) (own rooms : List ℕ) (o : Owning)
+pub all-fed : (d : Description) (kept : List UEntry) (own rooms : List ℕ) (o : OwnerState)
     → HasCallsAt d kept own rooms o → HasAllCalls kept own → HasFed d kept rooms o
 unfolding HasCallsAt HasAllCalls HasFed
 all-fed d [] own rooms o h all = rw h.1 h.2
@@ -180,7 +180,7 @@ only-steps (Feedback count ∷ more) kept own all none =
 
 -- An owner that did its lines owned all feedback calls of the device, of which its pass saw a beginning.
 pub lines-owned : (d : Description) (rooms : List ℕ) (view : PassView Description UEntry)
-    (entries : List UEntry) (last : Owning) → HasFedLines d rooms view last → IsPrefix view.seen entries
+    (entries : List UEntry) (last : OwnerState) → HasFedLines d rooms view last → IsPrefix view.seen entries
     → HasAllCalls (reverse entries) view.own
     → HasOwned d (steps_among step_made entries) rooms last
 lines-owned d rooms view entries last h begins all =

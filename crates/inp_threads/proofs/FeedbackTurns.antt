@@ -17,7 +17,7 @@ use Rattle.inp_feedback.specs.Feedback.{feedback_queue, is_full_of_feedback, tak
 use Rattle.inp_feedback.proofs.Few.{room-enough, room-enough-taken}
 use Rattle.inp_uinput.specs.FeedbackTurn.{entries_after_call, IsFeedbackTurn}
 use Rattle.inp_script.specs.ActorLine.{FeedCall, AreFeedCalls}
-use Rattle.inp_script.specs.Owner.{Owning, after_feedback, FeedsUnless}
+use Rattle.inp_script.specs.Owner.{OwnerState, after_feedback, FeedsUnless}
 use Rattle.inp_runs.specs.DoingAll.{AreOwned}
 use Rattle.inp_runs.proofs.owners.OwnerLaws.{fed-free, fed-full, kept-free, told-call-so, told-stopped-so}
 use Rattle.inp_threads.proofs.CallsAt.{calls-go_on, calls-longer}
@@ -43,7 +43,7 @@ taken-of d kept out new_out is =
 -- One line
 
 module _ (d : Description) (v w : PassView Description UEntry) (room : ℕ) (answer : Fed) (events : List Event)
-    (old new : Owning) (t : IsFedTurn d v (min room FEEDBACK_MAX) answer events w)
+    (old new : OwnerState) (t : IsFedTurn d v (min room FEEDBACK_MAX) answer events w)
     (noted : new ≡ after_feedback answer events old) where
   abbrev turn : IsFeedbackTurn d v answer t.out t.new_out w
   turn = t.turn
@@ -63,13 +63,13 @@ module _ (d : Description) (v w : PassView Description UEntry) (room : ℕ) (ans
   told-is : new ≡ after_feedback (fed d kept room) (taken_by_feedback d kept room) old
   told-is = noted ∙ (λ i. after_feedback (answer-is i) (events-are i) old)
 
-  abbrev Before : List ℕ → Owning → Type 0
+  abbrev Before : List ℕ → OwnerState → Type 0
   Before done o = HasCallsAt d (reverse v.seen) v.own done o
 
-  abbrev After : List ℕ → Owning → Type 0
+  abbrev After : List ℕ → OwnerState → Type 0
   After done o = HasCallsAt d (reverse w.seen) w.own done o
 
-  before-it : (done : List ℕ) (o : Owning) → Before done o → HasCallsAt d kept v.own done o
+  before-it : (done : List ℕ) (o : OwnerState) → Before done o → HasCallsAt d kept v.own done o
   before-it done o calls =
       let whole : kept ≡ reverse turn.begins.0 ++ reverse v.seen =
       ap reverse (sym turn.begins.1) ∙ reverse-append v.seen turn.begins.0 in
@@ -77,7 +77,7 @@ module _ (d : Description) (v w : PassView Description UEntry) (room : ℕ) (ans
 
   -- the call was refused
   refused : is_full_of_feedback d kept ≡ true
-      → (reverse w.seen ≡ kept) × ((done : List ℕ) (o : Owning) → Before done o → After done o)
+      → (reverse w.seen ≡ kept) × ((done : List ℕ) (o : OwnerState) → Before done o → After done o)
   refused full =
       let is : answer ≡ Full (length (steps_in kept)) = answer-is ∙ fed-full d kept room full in
       let seen : reverse w.seen ≡ kept =
@@ -128,7 +128,8 @@ module _ (d : Description) (v w : PassView Description UEntry) (room : ℕ) (ans
       rw told-is (record { done = told.done; before = told.before; calls = told.fed; ends = told.ends })
 
 -- a line of an owner that stopped
-stopped-line : (d : Description) (v : PassView Description UEntry) (rooms : List ℕ) (room : ℕ) (o : Owning)
+stopped-line : (d : Description) (v : PassView Description UEntry) (rooms : List ℕ) (room : ℕ)
+    (o : OwnerState)
     (stop : Stop) → o.stop ≡ Some stop → HasFedLines d rooms v o → HasFedLines d (rooms ++ room ∷ []) v o
 stopped-line d v rooms room o stop stops h =
     let told =
@@ -164,7 +165,7 @@ module _ {S : Type 0} (feeds : Feeding S) where
       (turns : (before after : S) (room : ℕ) (answer : Fed) (events : List Event)
       → feeds before after room answer events
       → (d after ≡ d before) × IsFedTurn (d before) (view before) room answer events (view after)) where
-    line-more : (before after : S) (rooms : List ℕ) (room : ℕ) (old new : Owning) (stop : Option Stop)
+    line-more : (before after : S) (rooms : List ℕ) (room : ℕ) (old new : OwnerState) (stop : Option Stop)
         → old.stop ≡ stop → FeedsUnless feeds stop before after (min room FEEDBACK_MAX) old new
         → HasFedLines (d before) rooms (view before) old
         → (d after ≡ d before) × HasFedLines (d before) (rooms ++ room ∷ []) (view after) new

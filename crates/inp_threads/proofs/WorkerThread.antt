@@ -7,7 +7,7 @@ use Rattle.std.specs.Result.{is_ok}
 use Rattle.std.proofs.lemmas.List.{append-nil}
 use Rattle.std.proofs.lemmas.List.Sums.{sum_by-cons}
 use Rattle.std.proofs.lemmas.Option.{same_Some}
-use Rattle.inp_script.specs.Owner.{Owning}
+use Rattle.inp_script.specs.Owner.{OwnerState}
 use Rattle.inp_model.specs.Evdev.{TurnsRise, TurnsStand}
 use Rattle.inp_model.specs.Run.{IsLegalRun}
 use Rattle.inp_model.specs.Leaves.{IsLeft}
@@ -144,7 +144,7 @@ turns-taken before after (call ∷ calls) m h told =
     one-more false m k n count all h l same = omega arith
 
 has-worked : (r : RecordView) (d : Description) (wait : Option Waiting) (a : ActorView) (new : Job)
-    (owning : Owning) (b e : EvdevView) (v : PassView Description UEntry)
+    (owning : OwnerState) (b e : EvdevView) (v : PassView Description UEntry)
     → b.seen ≡ [] → b.own ≡ [] → e.description ≡ d → e.seen ≡ steps_among step_made v.seen
     → e.own ≡ step_places step_made v.seen v.own → other_places step_made v.seen v.own ≡ [] → (m : ℕ)
     → b.turns ≡ Some m → e.turns ≡ Some v.turns
@@ -179,7 +179,7 @@ calling-done Owner r d wait a view away h = absurd cc
 calling-done _ r d wait a view away h = h
 
 -- a record has an actor, whatever its job and whatever it was told
-pub has_actor-still : (r : RecordView) (a : ActorView) (j : Job) (o : Owning) → HasActor r a
+pub has_actor-still : (r : RecordView) (a : ActorView) (j : Job) (o : OwnerState) → HasActor r a
     → HasActor r (record a { job = j; owning = o })
 has_actor-still r a j o h =
     record {

@@ -15,7 +15,7 @@ use Rattle.inp_feedback.specs.Feeds.{taken_count}
 use Rattle.inp_feedback.specs.Feedback.{taken_by_feedback, fed, kept_after_feedback}
 use Rattle.inp_uinput.specs.UdevView.{UdevView}
 use Rattle.inp_uinput.specs.FeedbackTurn.{IsFeedbackTurn}
-use Rattle.inp_script.specs.Owner.{Owning, first_owning, after_feedback}
+use Rattle.inp_script.specs.Owner.{OwnerState, first_owning, after_feedback}
 use Rattle.inp_runs.specs.Owner.{EndsFed}
 
 -- One turn was taken for a feedback call with room for so many events. It was answered so, and took these events.
@@ -32,7 +32,7 @@ IsFedBy port now before after room answer events = (now ≡ port) × IsFedTurn (
 
 -- A feedback call stands after this kept list, newest first. It is the next one of an owner whose calls so
 -- far stand at the places `earlier`, had the rooms `done` and told it this much.
-pub record IsNextCall (d : Description) (kept : List UEntry) (count : ℕ) (earlier done : List ℕ) (before : Owning) (own rooms : List ℕ) (o : Owning) : Type 0 where
+pub record IsNextCall (d : Description) (kept : List UEntry) (count : ℕ) (earlier done : List ℕ) (before : OwnerState) (own rooms : List ℕ) (o : OwnerState) : Type 0 where
   pub room : ℕ
   pub place : own ≡ earlier ++ length kept ∷ []
   pub rooms_are : rooms ≡ room ∷ done
@@ -42,18 +42,18 @@ pub record IsNextCall (d : Description) (kept : List UEntry) (count : ℕ) (earl
 -- What a device kept, newest first, has an owner's feedback calls at these places, and with room for so many
 -- events each, the last call first. Each was answered from what was kept before it, and this is what the
 -- owner was told. Between them stand steps and, it may be, calls of others.
-unfoldable pub HasCallsAt : Description → List UEntry → List ℕ → List ℕ → Owning → Type 0
+unfoldable pub HasCallsAt : Description → List UEntry → List ℕ → List ℕ → OwnerState → Type 0
 HasCallsAt d [] own rooms o = (own ≡ []) × (rooms ≡ []) × (o ≡ first_owning)
 HasCallsAt d (Made x ∷ kept) own rooms o = HasCallsAt d kept own rooms o
 HasCallsAt d (Feedback count ∷ kept) own rooms o =
     HasCallsAt d kept own rooms o
-    ⊎ ((earlier : List ℕ) × (done : List ℕ) × (before : Owning) × HasCallsAt d kept earlier done before
+    ⊎ ((earlier : List ℕ) × (done : List ℕ) × (before : OwnerState) × HasCallsAt d kept earlier done before
     × IsNextCall d kept count earlier done before own rooms o)
 
 -- An owner did its lines, with room for so many events each, and this is what it was told: its pass has seen
 -- its calls, and owns their places alone.
-pub record HasFedLines (d : Description) (rooms : List ℕ) (view : PassView Description UEntry) (last : Owning) : Type 0 where
+pub record HasFedLines (d : Description) (rooms : List ℕ) (view : PassView Description UEntry) (last : OwnerState) : Type 0 where
   pub done : List ℕ
-  pub before : Owning
+  pub before : OwnerState
   pub calls : HasCallsAt d (reverse view.seen) view.own done before
   pub ends : EndsFed d (reverse view.seen) rooms done before last

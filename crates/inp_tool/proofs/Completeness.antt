@@ -27,7 +27,7 @@ use Rattle.inp_tool.specs.Streams.{StreamFile, file_of, stream_files, events_in,
 use Rattle.inp_tool.specs.Outcome.{played_status}
 use Rattle.inp_tool.specs.RecordFile.{IsRead, IsUnread, IsTooLong, AreRead, IsParsed, IsAtStream, IsNext}
 use Rattle.inp_tool.specs.RecordFile.{HasBadText, HasBadStream, HasRecord}
-use Rattle.inp_tool.specs.Promise.{AskFor, NameFile, CameOf, HasCause, IsWrittenWhole, IsWritten, Promise}
+use Rattle.inp_tool.specs.Promise.{AskFor, NameFile, IsResultOf, HasCause, IsWrittenWhole, IsWritten, Promise}
 use Rattle.inp_tool.specs.Complete.{IsFaultless, IsThere, AreThere, IsReadable, played_by, IsTold}
 use Rattle.inp_tool.specs.Complete.{made_summary, IsToldWhole, IsRewritten, IsComplete}
 use Rattle.inp_tool.proofs.MadeBounds.{asked-not_full}
@@ -212,7 +212,8 @@ same_played end played runs joys owners = rw (runs, joys, owners)
 
 -- what came of a record was told
 is_told : (w : Writes) (idle : Option ℕ) (recorded : RecordView) (text : Played → List ℕ) (played : Played)
-    (says : List ℕ) (end : End) → CameOf idle recorded played → says ≡ text played → played_by end ≡ played
+    (says : List ℕ) (end : End) → IsResultOf idle recorded played → says ≡ text played
+    → played_by end ≡ played
     → end.status ≡ played_status played → Appends says w.before.written w.after.written
     → IsTold w idle recorded text end
 is_told w idle recorded text played says end came e same status written =
@@ -221,7 +222,7 @@ is_told w idle recorded text played says end came e same status written =
     let Q : List ℕ → Type 0 = λ t. Appends t w.before.written w.after.written in
     let here : P played = (status, subst Q e written) in
     let at = subst P (sym same) here in
-    record { came = subst (CameOf idle recorded) (sym same) came; status = at.0; written = at.1 }
+    record { came = subst (IsResultOf idle recorded) (sym same) came; status = at.0; written = at.1 }
 
 -- what a call may find of a record that is there
 abbrev IsReached : Outcome → Type 0
@@ -272,7 +273,7 @@ by_outcome words r w end (WasPlayed played text) file history idle recorded aske
     let same_idle : h.idle ≡ idle = cc (h.asked, asked) in
     let P : List ℕ → Type 0 = λ f. HasRecord r f h.recorded in
     let its = same_whole r file recorded readable stays faultless h.recorded (subst P same h.read) in
-    let C : RecordView → Type 0 = λ x. CameOf idle x played in
+    let C : RecordView → Type 0 = λ x. IsResultOf idle x played in
     let says =
     h.says ∙ ap (λ (x : RecordView). whole_report x h.history played) its
     ∙ ap (λ (b : Bool). whole_report recorded b played) same_history in
@@ -331,7 +332,7 @@ by_outcome_made words r w end (WasPlayed played text) number count asked (inr h)
     let n : h.number ≡ number = cc (h.asked, asked) in
     let c : h.count ≡ count = cc (h.asked, asked) in
     let C : ℕ → ℕ → Type 0 =
-    λ x y. CameOf None (generated x y) played × (text.items ≡ made_summary x y played) in
+    λ x y. IsResultOf None (generated x y) played × (text.items ≡ made_summary x y played) in
     let here : C number count = rw c at (subst (λ (x : ℕ). C x h.count) n (h.came, h.says)) in
     inr (is_told w None (generated number count)
     (made_summary number count) played text.items end here.0 here.1

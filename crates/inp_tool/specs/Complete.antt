@@ -19,7 +19,7 @@ use Rattle.inp_tool.specs.declared.end.End.{End}
 use Rattle.inp_tool.specs.Edge.{Reads, Writes}
 use Rattle.inp_tool.specs.Streams.{StreamFile, stream_files, HoldEvents}
 use Rattle.inp_tool.specs.Outcome.{played_status}
-use Rattle.inp_tool.specs.Promise.{AskFor, CameOf}
+use Rattle.inp_tool.specs.Promise.{AskFor, IsResultOf}
 
 -- a count that can rise and did not
 abbrev pub IsFaultless : ℕ → ℕ → Type 0
@@ -60,7 +60,7 @@ played_by end = record { runs = end.runs; joys = end.joys; owners = end.owners }
 -- The text that tells the result of this record was written whole. The status is 6 where a job stopped since
 -- a history was full, or an owner since its calls were as many as may be kept, and else 0.
 pub record IsTold (w : Writes) (idle : Option ℕ) (recorded : RecordView) (text : Played → List ℕ) (end : End) : Type 0 where
-  pub came : CameOf idle recorded (played_by end)
+  pub came : IsResultOf idle recorded (played_by end)
   pub status : end.status ≡ played_status (played_by end)
   pub written : Appends (text (played_by end)) w.before.written w.after.written
 

@@ -70,7 +70,7 @@ IsOutOfMemory r = (r.after ≡ r.before) ⊎ RanOut r
 -- its sight follows its lines. Each place of the history is in one sight, where joysticks' jobs are jobs too.
 -- What each owner was told is what its feedback calls took of what was sent to its device. On one thread the
 -- lines were done in file order besides (both of `inp_runs`).
-pub record CameOf (idle : Option ℕ) (recorded : RecordView) (played : Played) : Type 0 where
+pub record IsResultOf (idle : Option ℕ) (recorded : RecordView) (played : Played) : Type 0 where
   pub promised : ArePromised idle recorded played
   pub in_order : idle ≡ None → IsPlay recorded played
 
@@ -82,7 +82,7 @@ pub record IsPlayed (words : Arguments) (r : Reads) (played : Played) (text : Li
   pub asked : AskFor words file history idle
   pub recorded : RecordView
   pub read : HasRecord r file recorded
-  pub came : CameOf idle recorded played
+  pub came : IsResultOf idle recorded played
   pub says : text ≡ whole_report recorded history played
 
 -- The record in FILE was read with its streams. The text is its canonical text in version 2, by which it
@@ -103,7 +103,7 @@ pub record IsMade (words : Arguments) (r : Reads) (played : Played) (text : List
   pub count : ℕ
   pub asked : requested words ≡ Some (Make number count)
   pub untouched : r.after ≡ r.before
-  pub came : CameOf None (generated number count) played
+  pub came : IsResultOf None (generated number count) played
   pub says : text ≡ summary number count (generated number count) played.runs
   pub joys : played.joys ≡ []
   pub owners : played.owners ≡ []

@@ -4,7 +4,7 @@ ghost use Rattle.inp_make.specs.Generated.{generated};
 ghost use Rattle.inp_report.specs.Summary.{summary};
 ghost use Rattle.inp_report.specs.Whole.{whole_report};
 ghost use Rattle.inp_tool.specs.Outcome.{has_full, has_full_run, has_full_job, has_full_joy, has_full_owner, is_stopped_full};
-ghost use Rattle.inp_tool.specs.Promise.{CameOf};
+ghost use Rattle.inp_tool.specs.Promise.{IsResultOf};
 
 use inp_edge::Gate;
 use inp_make::make;
@@ -28,7 +28,7 @@ pub(crate) fn play_and_report<R: Threads + Wait + Sync, G: Gate>(
     gate: &G,
 ) -> Result<(Played, Vec<u8>), NoMemory>
     requires bound { IfSome idle (λ most. 1 ≤ most) }
-    ensures came { IfOk result (λ done. CameOf idle recorded.now done.0) }
+    ensures came { IfOk result (λ done. IsResultOf idle recorded.now done.0) }
     ensures text { IfOk result
         (λ done. (done.1).items ≡ whole_report recorded.now history done.0) }
 {
@@ -46,7 +46,7 @@ fn play_as_asked<R: Threads + Wait + Sync, G: Gate>(
     gate: &G,
 ) -> Result<Played, NoMemory>
     requires bound { IfSome idle (λ most. 1 ≤ most) }
-    ensures came { IfOk result (CameOf idle recorded.now) }
+    ensures came { IfOk result (IsResultOf idle recorded.now) }
 {
     match idle {
         Some(idle) => play_on_threads(rt, alloc, recorded, idle, gate),
@@ -62,7 +62,7 @@ pub(crate) fn make_and_play(
     count: u32,
 ) -> Result<(Played, Vec<u8>), NoMemory>
     requires few { count ≤ 10000 }
-    ensures came { IfOk result (λ done. CameOf None (generated number count) done.0) }
+    ensures came { IfOk result (λ done. IsResultOf None (generated number count) done.0) }
     ensures text { IfOk result
         (λ done. (done.1).items ≡ summary number count (generated number count) (done.0).runs) }
     ensures joys { IfOk result (λ done. (done.0).joys ≡ []) }

@@ -12,7 +12,7 @@ use Rattle.inp_reader.proofs.Meets.{meets-weaker}
 use Rattle.inp_script.proofs.LineWalk.{meets-noted, start_job-meets, round-meets}
 use Rattle.inp_runs.proofs.Common.{filter, filter-append, cond_both, Stamped, Step, Description, Answer}
 use Rattle.inp_runs.proofs.Common.{answer, Command, Line, Role, IsSizedFor, IsSizedFor-after_events, Mode}
-use Rattle.inp_runs.proofs.Common.{Success, Dropped, Sync, Started, Reading, start_talk, next_talk, Talk}
+use Rattle.inp_runs.proofs.Common.{Success, Dropped, Sync, Started, ReaderState, start_talk, next_talk, Talk}
 use Rattle.inp_runs.proofs.Common.{finish, and_then, Sight, Took, line_talk, Job, joying_of, is_call_entry}
 use Rattle.inp_runs.proofs.Common.{after_call, call_sight, again_sight, taken_sight, noted, lines_talk, Meets}
 use Rattle.inp_runs.proofs.Common.{Any, meets-then, NotedBy, OfJob, OfTurn, OfGoing, read_so, LineRules}
@@ -25,10 +25,11 @@ use Rattle.inp_joy.specs.declared.joy_read.JoyRead.TheVariants.{Again as Nothing
 use Rattle.inp_joy.specs.declared.joy_record.JoyRecord.{JoyRecord}
 use Rattle.inp_joy.specs.JoyRecord.{bytes_of_record}
 use Rattle.inp_joy.specs.Joy as joy
-use Rattle.inp_joy.specs.Joy.{Joying, JoyAnswer, with_reading, joy_started, joy_start, turns}
+use Rattle.inp_joy.specs.Joy.{JoystickState, JoyAnswer, with_reading, joy_started, joy_start, turns}
 use Rattle.inp_joy.proofs.TurnsWalk.{OfAnswer, TurnRules, turns-meets}
 use Rattle.inp_script.specs.declared.sight.Sight.TheVariants.{Again as AgainSight, Made, Record}
-use Rattle.inp_script.specs.Client.{job_after_start, Going, Turn, handed, one_less, is_done, turn_after}
+use Rattle.inp_script.specs.Client.{job_after_start, LineProgress, Turn, handed, one_less, is_done}
+use Rattle.inp_script.specs.Client.{turn_after}
 use Rattle.inp_script.specs.Client.{after_next, mode_of, with_sight, next_round}
 use Rattle.inp_script.specs.Joystick.{record_sight, after_joy_start, start_joystick, after_joy_answer}
 use Rattle.inp_runs.proofs.Entries.{call_entries}
@@ -94,7 +95,7 @@ again_same _ = refl
 abbrev AtBoth : {A : Type 0} → (A → List Sight → List Sight → Type 0) → Both → A → Type 0
 AtBoth P u a = P a (filter is_call_entry u.1) u.0
 
-abbrev LeavesRead : Description → Both → JoyRead → Reading → Type 0
+abbrev LeavesRead : Description → Both → JoyRead → ReaderState → Type 0
 LeavesRead d u read r = IsSizedFor d.slots r.view × (filter is_call_entry u.1 ++ again_of_read read ≡ u.0)
 
 -- records are no calls
@@ -108,31 +109,32 @@ record_told sight (Some r) =
 -- a start, by what its reader leaves, whatever is left of a startup then
 pub start_joystick-meets : {S : Type 0} (R : S → Step → Answer → S → Type 0) (I : S → Job → Type 0) (d :
     Description) (s : S) (j : Job)
-    → Meets Any (NotedBy R) (λ (u : S × List Sight) (o : Started × Reading). (stick : Stick) → I u.0
+    → Meets Any (NotedBy R) (λ (u : S × List Sight) (o : Started × ReaderState). (stick : Stick) → I u.0
     (record (job_after_start o.0 o.1 u.1) { stick = stick })) (s, j.sight) (start_talk d j.reading)
     → Meets Any R (OfJob I) s (start_joystick d j)
 unfolding start_joystick joy_start
 start_joystick-meets {S} R I d s j h =
-    let joins : Started × Reading → Talk (Started × Joying) = λ o. finish (joy_started d (joying_of j) o) in
-    let talk : Talk (Started × Joying) = and_then (start_talk d j.reading) joins in
-    let N : S → (Started × Joying) × List Sight → Type 0 = λ t o. I t
+    let joins : Started × ReaderState → Talk (Started × JoystickState) = λ o. finish
+    (joy_started d (joying_of j) o) in
+    let talk : Talk (Started × JoystickState) = and_then (start_talk d j.reading) joins in
+    let N : S → (Started × JoystickState) × List Sight → Type 0 = λ t o. I t
     (record (with_joying j o.0.1) { sight = o.1; stop = stop_after_start o.0.0 }) in
     meets-then Any R N (OfJob I) s (noted talk j.sight) (λ o. finish (after_joy_start j o))
     (meets-noted R N s j.sight talk
-    (meets-then Any (NotedBy R) Left (λ (u : S × List Sight) (o : Started × Joying). N u.0 (o, u.1))
+    (meets-then Any (NotedBy R) Left (λ (u : S × List Sight) (o : Started × JoystickState). N u.0 (o, u.1))
     (s, j.sight) (start_talk d j.reading) joins h (λ u o left. of_start u o.0 o.1 left)))
     (λ t o k. cond_both (start_lacks_memory o.0.0) _ _ (OfJob I t) (λ _. tt) (λ _. k))
   where
-    Left : S × List Sight → Started × Reading → Type 0
+    Left : S × List Sight → Started × ReaderState → Type 0
     Left u o = (stick : Stick) → I u.0 (record (job_after_start o.0 o.1 u.1) { stick = stick })
 
-    of_start : (u : S × List Sight) (started : Started) (r : Reading) → Left u (started, r)
+    of_start : (u : S × List Sight) (started : Started) (r : ReaderState) → Left u (started, r)
         → I u.0 (record (with_joying j (joy.joying_after_start d (with_reading (joying_of j) r) started))
         { sight = u.1; stop = stop_after_start started })
     of_start u (Opened client ring) r left = left _
     of_start u (Refused at why) r left =
         cond_both (is_needed r.phase) _ _
-        (λ (k : Joying). I u.0
+        (λ (k : JoystickState). I u.0
         (record (with_joying j k) { sight = u.1; stop = stop_after_start (Refused at why) }))
         (λ _. left _) (λ _. left _)
 
@@ -157,14 +159,14 @@ module _ (d : Description) where
       (sized, filter-append is_call_entry j.sight (AgainSight at ends ∷ []) ∙ h)
   kept_turn left agains _ j entries sized h = (sized, silent j.sight entries h)
 
-  kept-round : (s : List Sight) (skips : Bool) (g : Going) → KeptAt d s g.job
+  kept-round : (s : List Sight) (skips : Bool) (g : LineProgress) → KeptAt d s g.job
       → Meets Any (EntriesBy d) (OfTurn (KeptAt d) (OfGoing (KeptAt d))) s (next_round d None skips g)
   kept-round s skips g h =
       let mode : Mode = mode_of skips g.job.reading.phase in
       round-meets (EntriesBy d) (KeptAt d) (OfGoing (KeptAt d)) d s None skips g
       (meets-weaker Any (NotedBy (EntriesBy d))
-      (λ (u : Both) (o : Next × Reading). IsNext d o (filter is_call_entry u.1) u.0)
-      (λ (u : Both) (o : Next × Reading). IsKeptTurn d (after_next None g (o, u.1)) u.0)
+      (λ (u : Both) (o : Next × ReaderState). IsNext d o (filter is_call_entry u.1) u.0)
+      (λ (u : Both) (o : Next × ReaderState). IsKeptTurn d (after_next None g (o, u.1)) u.0)
       (s, g.job.sight) (next_talk d mode g.job.reading)
       (answers-next d mode g.job.reading (s, g.job.sight) h.0 h.1)
       (λ u o k. kept_turn g.left g.agains o.0 (read_so g.job o.1 u.1) u.0 k.0 k.1))
@@ -215,7 +217,7 @@ module _ (d : Description) where
   kept-joy_start s j h =
       start_joystick-meets (EntriesBy d) (KeptAt d) d s j
       (meets-weaker Any (NotedBy (EntriesBy d)) (AtBoth (IsStarted d))
-      (λ (u : Both) (o : Started × Reading). (stick : Stick) → KeptAt d u.0
+      (λ (u : Both) (o : Started × ReaderState). (stick : Stick) → KeptAt d u.0
       (record (job_after_start o.0 o.1 u.1) { stick = stick }))
       (s, j.sight) (start_talk d j.reading) (answers-start d j.reading (s, j.sight) h.0 h.1)
       (λ u o k stick. k))

@@ -7,7 +7,8 @@ use Rattle.inp_runs.proofs.Common.{list_any, cond_both, Stamped, Step, Inject, E
 use Rattle.inp_runs.proofs.Common.{Description, is_open_step, past_at, Answer, answer, accepted, is_accepted}
 use Rattle.inp_runs.proofs.Common.{Call, HasPlace, IsLegalFrom, place_of, next_place, Command, Stream}
 use Rattle.inp_runs.proofs.Common.{Stream16, Skip, Follow, Force, Line, Role, Source, Client, Tap, Joy, Owner}
-use Rattle.inp_runs.proofs.Common.{is_command_of, Mode, NO_CLIENT, Started, Reading, queries, next_talk, Talk}
+use Rattle.inp_runs.proofs.Common.{is_command_of, Mode, NO_CLIENT, Started, ReaderState, queries, next_talk}
+use Rattle.inp_runs.proofs.Common.{Talk}
 use Rattle.inp_runs.proofs.Common.{finish, ask, and_then, EndsWith, Sight, Stop, Waiting, unless_stopped, Job}
 use Rattle.inp_runs.proofs.Common.{joying_of, step_of, after_call, source_talk, end_talk, tap_call_if, noted}
 use Rattle.inp_runs.proofs.Common.{call_sight, on_job, last_talk, call_lacks_memory}
@@ -18,11 +19,12 @@ use Rattle.inp_reader.specs.declared.next.Next.{Next as Answered}
 use Rattle.inp_reader.specs.Reader.{start_talk, ask_each, after_open, after_queries}
 use Rattle.inp_joy.specs.declared.joy_read.JoyRead.{JoyRead}
 use Rattle.inp_joy.specs.declared.joy_read.JoyRead.TheVariants.{Frame, More}
-use Rattle.inp_joy.specs.Joy.{Joying, JoyAnswer, joy_started, joy_start, turns}
+use Rattle.inp_joy.specs.Joy.{JoystickState, JoyAnswer, joy_started, joy_start, turns}
 use Rattle.inp_joy.proofs.TurnsWalk.{turns-ask}
 use Rattle.inp_reader.specs.Talk.{LeadsTo}
 use Rattle.inp_reader.proofs.NextWalk.{OfQueries, each-query, asks-each, next-asks}
-use Rattle.inp_script.specs.Client.{Going, Turn, goes_on, ends_with, is_done, mode_of, start_ends, start_job}
+use Rattle.inp_script.specs.Client.{LineProgress, Turn, goes_on, ends_with, is_done, mode_of, start_ends}
+use Rattle.inp_script.specs.Client.{start_job}
 use Rattle.inp_script.specs.Client.{after_next, next_round, on_turn, rounds, hand_talk, client_talk}
 use Rattle.inp_script.specs.DoneLine.{line_talk, command_talk}
 use Rattle.inp_script.specs.Sight as script
@@ -75,28 +77,29 @@ no_open-queries d client =
       slots = λ h. refl;
     }
 
-no_open-next : (d : Description) (mode : Mode) (r : Reading) → NoOpen (next_talk d mode r)
+no_open-next : (d : Description) (mode : Mode) (r : ReaderState) → NoOpen (next_talk d mode r)
 no_open-next d mode r =
     next-asks opens_none d mode r
     (record { read = refl; discard = refl; queries = no_open-queries d r.client })
 
 module _ (d : Description) (wait : Option Waiting) (skips : Bool) where
-  no_open-round : (g : Going) → NoOpen (next_round d wait skips g)
+  no_open-round : (g : LineProgress) → NoOpen (next_round d wait skips g)
   unfolding next_round
   no_open-round g =
-      let talk : Talk (Answered × Reading) = next_talk d (mode_of skips g.job.reading.phase) g.job.reading in
+      let talk : Talk (Answered × ReaderState) = next_talk d
+      (mode_of skips g.job.reading.phase) g.job.reading in
       asks-then opens_none (noted talk g.job.sight) (λ o. finish (after_next wait g o))
       (no_open-noted talk g.job.sight (no_open-next d (mode_of skips g.job.reading.phase) g.job.reading))
       (λ o. tt)
 
-  no_open-rounds : (n : ℕ) (g : Going) → NoOpen (rounds d wait skips n g)
+  no_open-rounds : (n : ℕ) (g : LineProgress) → NoOpen (rounds d wait skips n g)
   unfolding rounds
   no_open-rounds zero g = tt
   no_open-rounds (suc n) g =
       asks-then opens_none (next_round d wait skips g) (on_turn (rounds d wait skips n)) (no_open-round g)
       (by_turn (no_open-rounds n))
     where
-      by_turn : ((here : Going) → NoOpen (rounds d wait skips n here)) → (turn : Turn)
+      by_turn : ((here : LineProgress) → NoOpen (rounds d wait skips n here)) → (turn : Turn)
           → NoOpen (on_turn (rounds d wait skips n) turn)
       by_turn more (goes_on here) = more here
       by_turn more (ends_with j) = tt
@@ -106,7 +109,7 @@ module _ (d : Description) (wait : Option Waiting) (skips : Bool) where
       cond_both (is_done left) _ _ NoOpen (λ _. tt)
       (λ _. no_open-rounds n (record { job = j; left = left; agains = 0 }))
 
-no_open-opened : (d : Description) (r : Reading) (at client ring : ℕ)
+no_open-opened : (d : Description) (r : ReaderState) (at client ring : ℕ)
     → NoOpen (after_open d r (Opened at client ring))
 no_open-opened d r at client ring =
     asks-then opens_none (ask_each (queries d client) r.view)
@@ -219,8 +222,9 @@ gives_up-joy_start d j =
         (noted (and_then (after_open d j.reading reply) (λ o. finish (joy_started d (joying_of j) o))) sight)
         (λ o. finish (after_joy_start j o)))
     by_reply (Opened at client ring) sight =
-        let opened : Talk (Started × Reading) = after_open d j.reading (Opened at client ring) in
-        let joins : Started × Reading → Talk (Started × Joying) = λ o. finish (joy_started d (joying_of j) o)
+        let opened : Talk (Started × ReaderState) = after_open d j.reading (Opened at client ring) in
+        let joins : Started × ReaderState → Talk (Started × JoystickState) = λ o. finish
+        (joy_started d (joying_of j) o)
         in
         noted-gives_up (and_then opened joins) sight (after_joy_start j)
         (asks-then opens_none opened joins (no_open-opened d j.reading at client ring) (λ o. tt))

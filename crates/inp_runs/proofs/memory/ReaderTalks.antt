@@ -10,7 +10,8 @@ use Rattle.inp_reader.specs.Reader.{as_plain, after_failed_sync}
 use Rattle.inp_runs.proofs.Common.{filter, Result, Ok, Err, filter-append, Step, Description, Answer, answer}
 use Rattle.inp_runs.proofs.Common.{is_accepted, Call, Talk, EndsWith, Sight, sight_of_calls, is_call_entry}
 use Rattle.inp_runs.proofs.Common.{call_sight, again_sight, Meets, Any, meets-ends, NotedBy, Reply, is_again}
-use Rattle.inp_runs.proofs.Common.{View, IsSizedFor, Mode, Started, Success, Dropped, Sync, Reading, queries}
+use Rattle.inp_runs.proofs.Common.{View, IsSizedFor, Mode, Started, Success, Dropped, Sync, ReaderState}
+use Rattle.inp_runs.proofs.Common.{queries}
 use Rattle.inp_runs.proofs.Common.{start_talk, stop_of, next_talk, Each}
 use Rattle.inp_runs.proofs.Entries.{call_entries}
 use Rattle.inp_reader.proofs.Meets.{Runs}
@@ -72,7 +73,7 @@ IsSame u = filter is_call_entry u.1 ≡ u.0
 abbrev IsSizedSoFar : Description → Both → View → List Step → Type 0
 IsSizedSoFar d u view left = IsSizedFor d.slots view × IsSame u × Each IsNoRead left
 
-abbrev pub IsStarted : Description → Started × Reading → List Sight → List Sight → Type 0
+abbrev pub IsStarted : Description → Started × ReaderState → List Sight → List Sight → Type 0
 IsStarted d o kept entries = IsSizedFor d.slots o.1.view × (kept ≡ entries)
 
 -- where a reader answers Again there is one entry more
@@ -87,13 +88,13 @@ stopped-again (StepRefused at _) = refl
 stopped-again (NothingVisible at ends) = refl
 stopped-again _ = refl
 
-abbrev pub IsNext : Description → Next × Reading → List Sight → List Sight → Type 0
+abbrev pub IsNext : Description → Next × ReaderState → List Sight → List Sight → Type 0
 IsNext d o kept entries = IsSizedFor d.slots o.1.view × (kept ++ again_of o.0 ≡ entries)
 
-abbrev pub IsSizedReader : Description → Both → Reading → Type 0
+abbrev pub IsSizedReader : Description → Both → ReaderState → Type 0
 IsSizedReader d u r = IsSizedFor d.slots r.view × IsSame u
 
-abbrev pub LeavesNext : Description → Both → Next × Reading → Type 0
+abbrev pub LeavesNext : Description → Both → Next × ReaderState → Type 0
 LeavesNext d u o = IsNext d o (filter is_call_entry u.1) u.0
 
 module _ (d : Description) where
@@ -154,10 +155,10 @@ module _ (d : Description) where
   }
 
   -- a start makes no read, so no call of it is answered Again, and all are noted
-  pub answers-start : (r : Reading) (u : Both) → IsSizedFor d.slots r.view → IsSame u
+  pub answers-start : (r : ReaderState) (u : Both) → IsSizedFor d.slots r.view → IsSame u
       → Answers d (IsStarted d) u (start_talk d r)
   answers-start r u sized same =
-      let Q : Both → Started × Reading → Type 0 = λ v o. IsStarted d o (filter is_call_entry v.1) v.0 in
+      let Q : Both → Started × ReaderState → Type 0 = λ v o. IsStarted d o (filter is_call_entry v.1) v.0 in
       let opens : (v : Both) (a : Answer) → NotedBy (EntriesBy d) u Open a v → IsSame v =
       λ v a by. told-by u v Open a (told.not_again a.reply (quiet-by u v Open a refl by)) same by in
       start-meets Any (NotedBy (EntriesBy d)) Q d r u (record {
@@ -170,8 +171,8 @@ module _ (d : Description) where
         refused = λ v a by other. (sized, opens v a by);
       })
 
-  next-nothing : (u : Both) (o : Next × Reading) → IsSizedFor d.slots o.1.view → again_of o.0 ≡ [] → IsSame u
-      → LeavesNext d u o
+  next-nothing : (u : Both) (o : Next × ReaderState) → IsSizedFor d.slots o.1.view → again_of o.0 ≡ []
+      → IsSame u → LeavesNext d u o
   next-nothing u o sized none same = (sized, rw (none, append-nil) same)
 
   next-rules : (mode : Mode) → NextRules Any (NotedBy (EntriesBy d)) (IsSizedReader d) (LeavesNext d) d mode
@@ -209,7 +210,7 @@ module _ (d : Description) where
   }
 
   -- only a read is answered Again, and it is the last call then; all others are noted
-  pub answers-next : (mode : Mode) (r : Reading) (u : Both) → IsSizedFor d.slots r.view → IsSame u
+  pub answers-next : (mode : Mode) (r : ReaderState) (u : Both) → IsSizedFor d.slots r.view → IsSame u
       → Answers d (IsNext d) u (next_talk d mode r)
   answers-next mode r u sized same =
       next-meets Any (NotedBy (EntriesBy d)) (IsSizedReader d) (LeavesNext d) d mode

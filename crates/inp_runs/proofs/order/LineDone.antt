@@ -6,7 +6,7 @@ use Rattle.std.proofs.lemmas.Option.{option_and_then_some}
 use Rattle.inp_runs.proofs.Common.{slice_set, option_map, Stamped, Step, Description, Call, ActorText}
 use Rattle.inp_runs.proofs.Common.{Command, Feedback, Line, Role, Owner, is_command_of, feedback_room}
 use Rattle.inp_runs.proofs.Common.{RecordView, Talk, finish, EndsWith, Sight, Stop, Job, ActorView}
-use Rattle.inp_runs.proofs.Common.{sight_of_calls, Owning, Stage}
+use Rattle.inp_runs.proofs.Common.{sight_of_calls, OwnerState, Stage}
 use Rattle.std.specs.Prelude.{slice_get}
 use Rattle.inp_feedback.specs.declared.feedback_call.FeedbackCall.{FeedbackCall}
 use Rattle.inp_feedback.specs.declared.u_entry.UEntry.{UEntry}
@@ -27,7 +27,7 @@ use Rattle.inp_runs.specs.Play.{feedback_calls_after}
 -- An owner that did not stop made its feedback call on a device that kept these steps and calls; one that
 -- stopped did nothing.
 abbrev pub IsFedUnless : Option Stop → Stage → Stage → ℕ → ActorView → ℕ → List Step → List FeedbackCall
-    → Owning → Type 0
+    → OwnerState → Type 0
 IsFedUnless None stage now device a room past calls owning =
     let kept = kept_of past calls in
     (now.calls ≡ slice_set stage.calls device (feedback_calls_after (fed a.description kept room) calls))
@@ -37,7 +37,7 @@ IsFedUnless (Some stop) stage now device a room past calls owning =
 
 -- what a line leaves of the feedback calls and of what its actor keeps as an owner, by whether it is a
 -- feedback call
-abbrev pub IsFedWhereAsked : Option ℕ → Stage → Stage → ℕ → ActorView → List Step → Owning → Type 0
+abbrev pub IsFedWhereAsked : Option ℕ → Stage → Stage → ℕ → ActorView → List Step → OwnerState → Type 0
 IsFedWhereAsked None stage now device a past owning = (now.calls ≡ stage.calls) × (owning ≡ a.owning)
 IsFedWhereAsked (Some room) stage now device a past owning =
     (calls : List FeedbackCall) × (slice_get stage.calls device ≡ Some calls)
@@ -60,7 +60,7 @@ pub record IsLinePlayed (r : RecordView) (rounds : ℕ) (stage now : Stage) (lin
   -- the actor's job behind the line
   pub job : Job
   -- what the actor was told as an owner, behind the line
-  pub owning : Owning
+  pub owning : OwnerState
   -- the steps of its device behind the line, newest first
   pub after : List Step
   -- the calls that the line made
@@ -119,7 +119,7 @@ set_same (y ∷ xs) (suc i) x h = rw (set_same xs i x h)
 -- what it leaves, by whether its owner had stopped
 record IsCallDone (stage now : Stage) (device : ℕ) (a : ActorView) (room : ℕ) (past : List Step)
     (calls : List FeedbackCall) : Type 0 where
-  owning : Owning
+  owning : OwnerState
   pasts : now.pasts ≡ stage.pasts
   actors : now.actors ≡ slice_set stage.actors a.actor (record a { owning = owning })
   is_fed : IsFedUnless a.owning.stop stage now device a room past calls owning
@@ -133,7 +133,7 @@ call-done stage now device a room past calls is_actor h = by_stop a.owning.stop 
     kept : List UEntry
     kept = kept_of past calls
 
-    told : Owning
+    told : OwnerState
     told = owning_behind a.description kept room a.owning
 
     by_stop : (stop : Option Stop) → a.owning.stop ≡ stop

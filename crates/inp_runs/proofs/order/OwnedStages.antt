@@ -5,7 +5,8 @@ use Rattle.std.specs.List.{cons_option}
 use Rattle.std.proofs.lemmas.List.Elements.{filter_map-append}
 use Rattle.inp_runs.specs.Play.{after_lines}
 use Rattle.inp_runs.proofs.Common.{slice_set, same_Some, Step, Description, is_accepted, past_after, Call}
-use Rattle.inp_runs.proofs.Common.{ActorText, Line, Owner, feedback_room, RecordView, Stop, ActorView, Owning}
+use Rattle.inp_runs.proofs.Common.{ActorText, Line, Owner, feedback_room, RecordView, Stop, ActorView}
+use Rattle.inp_runs.proofs.Common.{OwnerState}
 use Rattle.inp_runs.proofs.Common.{lines_by, rooms_of, Stage, description_at, cond_both}
 use Rattle.std.specs.Prelude.{slice_get}
 use Rattle.inp_feedback.specs.declared.feedback_call.FeedbackCall.{FeedbackCall}
@@ -21,7 +22,7 @@ use Rattle.inp_runs.proofs.order.Stages.{IsStage, AreCommandsOf, number_is, its_
 use Rattle.inp_runs.proofs.order.Stages.{actor-behind, past-behind, stages-keep}
 
 -- what an owner keeps is what it was told by its lines among these
-abbrev pub IsToldUpTo : RecordView → List Line → ℕ → List Step → List FeedbackCall → ℕ → Owning → Type 0
+abbrev pub IsToldUpTo : RecordView → List Line → ℕ → List Step → List FeedbackCall → ℕ → OwnerState → Type 0
 IsToldUpTo r lines device past calls actor owning =
     IsToldByLines (description_at r device) (kept_of past calls) (rooms_of (lines_by actor lines)) owning
 

@@ -7,7 +7,8 @@ use Rattle.inp_runs.proofs.Common.{Talk, finish, EndsWith, Stop, Waiting, unless
 use Rattle.inp_runs.proofs.Common.{finished, split-and_then, on_job, option_map, Step, feedback_room}
 use Rattle.inp_runs.proofs.Common.{RecordView, Stage}
 use Rattle.inp_actors.specs.declared.command.Command.TheVariants.{Next}
-use Rattle.inp_script.specs.Client.{Going, Turn, goes_on, ends_with, is_done, next_round, on_turn, rounds}
+use Rattle.inp_script.specs.Client.{LineProgress, Turn, goes_on, ends_with, is_done, next_round, on_turn}
+use Rattle.inp_script.specs.Client.{rounds}
 use Rattle.inp_script.specs.Client.{hand_talk, client_talk}
 use Rattle.inp_script.specs.DoneLine.{line_talk, command_talk}
 use Rattle.inp_script.proofs.JoyLonger.{ends-then, joystick-longer}
@@ -26,7 +27,7 @@ Lasts talk longer =
     (calls : List Call) (j : Job) → EndsWith talk calls (Some j) → EndsWith longer calls (Some j)
 
 module _ (d : Description) (wait : Option Waiting) (skips : Bool) where
-  rounds-longer : (n more : ℕ) (g : Going)
+  rounds-longer : (n more : ℕ) (g : LineProgress)
       → Lasts (rounds d wait skips n g) (rounds d wait skips (n + more) g)
   unfolding rounds
   rounds-longer zero more g calls j h = let f = finished None (Some j) calls h in absurd cc
@@ -36,10 +37,11 @@ module _ (d : Description) (wait : Option Waiting) (skips : Bool) where
       rw (same, p.calls_are)
       (ends-then (next_round d wait skips g) (on_turn (rounds d wait skips (n + more))) p.between
       (Some j) p.first p.later p.first_ends
-      (by_turn p.between p.later (λ (here : Going) e. rounds-longer n more here p.later j e) p.later_ends))
+      (by_turn p.between p.later (λ (here : LineProgress) e. rounds-longer n more here p.later j e)
+      p.later_ends))
     where
       by_turn : (turn : Turn) (second : List Call)
-          → ((here : Going) → EndsWith (rounds d wait skips n here) second (Some j)
+          → ((here : LineProgress) → EndsWith (rounds d wait skips n here) second (Some j)
           → EndsWith (rounds d wait skips (n + more) here) second (Some j))
           → EndsWith (on_turn (rounds d wait skips n) turn) second (Some j)
           → EndsWith (on_turn (rounds d wait skips (n + more)) turn) second (Some j)
@@ -50,7 +52,7 @@ module _ (d : Description) (wait : Option Waiting) (skips : Bool) where
       → Lasts (hand_talk d wait skips left n old) (hand_talk d wait skips left (n + more) old)
   hand-longer left n more old = by_flag (is_done left)
     where
-      start : Going
+      start : LineProgress
       start = record { job = old; left = left; agains = 0 }
 
       by_flag : (b : Bool)

@@ -9,7 +9,7 @@ use Rattle.inp_runs.proofs.Common.{filter, list_any, range_with_len, sum_by, sli
 use Rattle.inp_runs.proofs.Common.{Description, Call, IsLegalFrom, IsLegalRun, next_place, ActorText, Line}
 use Rattle.inp_runs.proofs.Common.{Role, is_command_of, RecordView, IsHistory, IsSizedFor, EndsWith}
 use Rattle.inp_runs.proofs.Common.{line_talk, Job, ActorView, first_job, sight_of_calls, is_call_entry}
-use Rattle.inp_runs.proofs.Common.{Owning, lines_by, lines_talk, call_lacks_memory, Stage, description_at}
+use Rattle.inp_runs.proofs.Common.{OwnerState, lines_by, lines_talk, call_lacks_memory, Stage, description_at}
 use Rattle.std.specs.Prelude.{slice_get}
 use Rattle.inp_script.specs.Runs.{is_on_device}
 use Rattle.inp_model.proofs.Leaves.{HasPlace-longer}
@@ -97,7 +97,7 @@ legal-longer d h k least (call ∷ calls) begins l = (
 module _ (r : RecordView) (rounds : ℕ) (lines : List Line) (line : Line) (d : Description) (role : Role)
     (past after : List Step) (a : ActorView) (s : IsSoFar r rounds lines d role past a) where
   -- of an actor that did another line
-  so_far-more : (job : Job) (owning : Owning) (calls : List Call) → line.actor ≡ a.actor
+  so_far-more : (job : Job) (owning : OwnerState) (calls : List Call) → line.actor ≡ a.actor
       → EndsWith (line_talk a.role a.description r.streams None rounds line.command a.job) calls (Some job)
       → AreExact a.description past after calls → IsHistory d past
       → IsKept a.description job (filter is_call_entry a.job.sight ++ sight_of_calls calls)

@@ -2,7 +2,7 @@
 use Rattle.std.proofs.Common.{◌≡◌, ℕ, Bool, true, false, if◌then◌else◌, List, [], ◌∷◌, ◌++◌, length, map}
 use Rattle.std.proofs.Common.{reverse, refl, sym, ap, subst, ◌∙◌, append_assoc, arith, inl, inr, Some, None}
 use Rattle.inp_script.specs.Owner.{stop_after_answer, first_owning, after_feedback}
-use Rattle.inp_runs.proofs.Common.{map-append, Step, Description, Stop, Owning}
+use Rattle.inp_runs.proofs.Common.{map-append, Step, Description, Stop, OwnerState}
 use Rattle.inp_runs.proofs.Common.{false_from_ne_true, cond_both}
 use Rattle.inp_feedback.specs.declared.fed.Fed.TheVariants.{Took, Full}
 use Rattle.inp_feedback.specs.declared.u_entry.UEntry.{UEntry}
@@ -22,7 +22,7 @@ abbrev pub calls_behind : Description → List Step → List FeedbackCall → �
 calls_behind d past calls room = feedback_calls_after (fed d (kept_of past calls) room) calls
 
 -- what an owner keeps behind a call
-abbrev pub owning_behind : Description → List UEntry → ℕ → Owning → Owning
+abbrev pub owning_behind : Description → List UEntry → ℕ → OwnerState → OwnerState
 owning_behind d kept room o = after_feedback (fed d kept room) (taken_by_feedback d kept room) o
 
 -- What a call leaves, takes and answers, by whether as many are kept as the log limit says
@@ -53,19 +53,19 @@ module _ (d : Description) (kept : List UEntry) (room : ℕ) where
 -- What an owner was told by its lines so far, with room for so many events each, of a device that kept this.
 -- Of the rooms of its calls that were kept, the last call first, and of what it was told by them, something
 -- is known.
-pub record IsToldSo (H : List ℕ → Owning → Type 0) (d : Description) (kept : List UEntry) (rooms : List ℕ)
-    (last : Owning) : Type 0 where
+pub record IsToldSo (H : List ℕ → OwnerState → Type 0) (d : Description) (kept : List UEntry) (rooms : List ℕ)
+    (last : OwnerState) : Type 0 where
   -- the rooms of its calls that were kept, the last call first
   pub done : List ℕ
   -- what it was told by those calls
-  pub before : Owning
+  pub before : OwnerState
   -- what is known of both
   pub fed : H done before
   -- all its calls were made, or one was refused at the limit
   pub ends : EndsFed d kept rooms done before last
 
 -- the device kept no other calls
-abbrev pub IsToldByLines : Description → List UEntry → List ℕ → Owning → Type 0
+abbrev pub IsToldByLines : Description → List UEntry → List ℕ → OwnerState → Type 0
 IsToldByLines d kept rooms last = IsToldSo (HasFed d kept) d kept rooms last
 
 -- before the first line
@@ -92,7 +92,7 @@ module _ (d : Description) (kept : List UEntry) (room : ℕ) where
       omega (arith, ap length same))
 
 -- an owner all of whose calls were made goes on
-fed-goes_on : (d : Description) (kept : List UEntry) (rooms : List ℕ) (o : Owning) → HasFed d kept rooms o
+fed-goes_on : (d : Description) (kept : List UEntry) (rooms : List ℕ) (o : OwnerState) → HasFed d kept rooms o
     → o.stop ≡ None
 unfolding HasFed
 fed-goes_on d [] [] o h = rw h
@@ -103,13 +103,13 @@ fed-goes_on d (Feedback count ∷ kept) (room ∷ rooms) o h =
     rw h.3 (free-goes_on d kept room (grew-free d kept room (Feedback count) h.2))
 
 -- one call more, which was made or refused
-module _ (H N : List ℕ → Owning → Type 0) (d : Description) (seen kept after : List UEntry) (room : ℕ)
-    (o : Owning) where
-  abbrev now : Owning
+module _ (H N : List ℕ → OwnerState → Type 0) (d : Description) (seen kept after : List UEntry) (room : ℕ)
+    (o : OwnerState) where
+  abbrev now : OwnerState
   now = after_feedback (fed d kept room) (taken_by_feedback d kept room) o
 
   module _ (refused : is_full_of_feedback d kept ≡ true
-      → (after ≡ kept) × ((done : List ℕ) (last : Owning) → H done last → N done last))
+      → (after ≡ kept) × ((done : List ℕ) (last : OwnerState) → H done last → N done last))
       (made : is_full_of_feedback d kept ≡ false → (done : List ℕ) → H done o → N (room ∷ done) now) where
     -- a line of an owner that goes on
     pub told-call-so : (rooms : List ℕ) → o.stop ≡ None → IsToldSo H d seen rooms o
@@ -151,9 +151,9 @@ module _ (H N : List ℕ → Owning → Type 0) (d : Description) (seen kept aft
             absurd cc
 
 -- a line of an owner that stopped; one all of whose calls were made goes on
-pub told-stopped-so : (H : List ℕ → Owning → Type 0) (d : Description) (kept : List UEntry) (rooms : List ℕ)
-    (room : ℕ) (o : Owning) (stop : Stop) → ((done : List ℕ) (last : Owning) → H done last → last.stop ≡ None)
-    → o.stop ≡ Some stop
+pub told-stopped-so : (H : List ℕ → OwnerState → Type 0) (d : Description) (kept : List UEntry)
+    (rooms : List ℕ) (room : ℕ) (o : OwnerState) (stop : Stop)
+    → ((done : List ℕ) (last : OwnerState) → H done last → last.stop ≡ None) → o.stop ≡ Some stop
     → IsToldSo H d kept rooms o → IsToldSo H d kept (rooms ++ room ∷ []) o
 told-stopped-so H d kept rooms room o stop goes_on stops t =
     record { done = t.done; before = t.before; fed = t.fed; ends = by t.ends }
@@ -176,7 +176,7 @@ told-stopped-so H d kept rooms room o stop goes_on stops t =
 
 module _ (d : Description) (kept : List UEntry) where
   -- one call more, which was not refused
-  fed-more : (rooms : List ℕ) (room : ℕ) (o : Owning) → is_full_of_feedback d kept ≡ false
+  fed-more : (rooms : List ℕ) (room : ℕ) (o : OwnerState) → is_full_of_feedback d kept ≡ false
       → HasFed d kept rooms o
       → HasFed d (kept_after_feedback d kept room) (room ∷ rooms) (owning_behind d kept room o)
   unfolding HasFed
@@ -185,14 +185,14 @@ module _ (d : Description) (kept : List UEntry) where
       (o, h, sym (kept-free d kept room free), refl)
 
   -- further steps tell an owner nothing
-  fed-steps : (rooms : List ℕ) (o : Owning) (xs : List Step) → HasFed d kept rooms o
+  fed-steps : (rooms : List ℕ) (o : OwnerState) (xs : List Step) → HasFed d kept rooms o
       → HasFed d (map Made xs ++ kept) rooms o
   unfolding HasFed
   fed-steps rooms o [] h = h
   fed-steps rooms o (x ∷ xs) h = fed-steps rooms o xs h
 
   -- further steps come behind a refused call, and where all calls were made they change nothing
-  pub ends-steps : (rooms done : List ℕ) (before last : Owning) (xs : List Step)
+  pub ends-steps : (rooms done : List ℕ) (before last : OwnerState) (xs : List Step)
       → EndsFed d kept rooms done before last → EndsFed d (map Made xs ++ kept) rooms done before last
   ends-steps rooms done before last xs (inl all) = inl all
   ends-steps rooms done before last xs (inr f) =
@@ -207,7 +207,7 @@ module _ (d : Description) (kept : List UEntry) where
         told = f.told;
       })
 
-  pub told-steps : (rooms : List ℕ) (o : Owning) (xs : List Step) → IsToldByLines d kept rooms o
+  pub told-steps : (rooms : List ℕ) (o : OwnerState) (xs : List Step) → IsToldByLines d kept rooms o
       → IsToldByLines d (map Made xs ++ kept) rooms o
   told-steps rooms o xs t = record {
     done = t.done;
@@ -217,7 +217,7 @@ module _ (d : Description) (kept : List UEntry) where
   }
 
   -- a call that is made is kept behind the others, and a refused one leaves them as they were
-  pub told-call : (rooms : List ℕ) (room : ℕ) (o : Owning) → o.stop ≡ None → IsToldByLines d kept rooms o
+  pub told-call : (rooms : List ℕ) (room : ℕ) (o : OwnerState) → o.stop ≡ None → IsToldByLines d kept rooms o
       → IsToldByLines d (kept_after_feedback d kept room) (rooms ++ room ∷ []) (owning_behind d kept room o)
   told-call rooms room o goes_on t =
       told-call-so (HasFed d kept) (HasFed d (kept_after_feedback d kept room)) d kept kept
@@ -226,14 +226,14 @@ module _ (d : Description) (kept : List UEntry) where
       (λ free done h. fed-more done room o free h) rooms goes_on t
 
   -- an owner stops at a refused call alone, and does nothing at its later lines
-  pub told-stopped : (rooms : List ℕ) (room : ℕ) (o : Owning) (stop : Stop) → o.stop ≡ Some stop
+  pub told-stopped : (rooms : List ℕ) (room : ℕ) (o : OwnerState) (stop : Stop) → o.stop ≡ Some stop
       → IsToldByLines d kept rooms o → IsToldByLines d kept (rooms ++ room ∷ []) o
   told-stopped rooms room o stop stops t =
       told-stopped-so (HasFed d kept) d kept rooms room o stop (fed-goes_on d kept) stops t
 
 -- steps that came to be kept besides
 pub so-far-steps : (d : Description) (past after more : List Step) (calls : List FeedbackCall)
-    (rooms : List ℕ) (last : Owning) → StandsWithin (length past) calls → after ≡ more ++ past
+    (rooms : List ℕ) (last : OwnerState) → StandsWithin (length past) calls → after ≡ more ++ past
     → IsToldByLines d (kept_of past calls) rooms last
     → IsToldByLines d (kept_of after calls) rooms last
 so-far-steps d past after more calls rooms last within grown s =
@@ -271,7 +271,7 @@ module _ (d : Description) (past : List Step) (calls : List FeedbackCall) (room 
           kept_of-fed past calls (record { at = at; count = count }) (ap length (steps_in-kept_of past calls))
 
   -- the owner made its call
-  pub so-far-called : (rooms : List ℕ) (last : Owning) → last.stop ≡ None
+  pub so-far-called : (rooms : List ℕ) (last : OwnerState) → last.stop ≡ None
       → IsToldByLines d (kept_of past calls) rooms last
       → IsToldByLines d (kept_of past (calls_behind d past calls room)) (rooms ++ room ∷ [])
       (owning_behind d (kept_of past calls) room last)

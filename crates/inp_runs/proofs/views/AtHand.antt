@@ -10,7 +10,7 @@ use Rattle.inp_runs.proofs.Common.{option_map, Refused, Result, Ok, Err, eq-eqb,
 use Rattle.inp_runs.proofs.Common.{is_accepted, Answer, IsAnswer, answer, refused, taken_of, place_of, Call}
 use Rattle.inp_runs.proofs.Common.{HasPlace, next_place, client_of, is_use, is_read, is_use_of, Sight, Took}
 use Rattle.inp_runs.proofs.Common.{call_sight, taken_sight, LastRead, is_read_as, reads_as, index_in_history}
-use Rattle.inp_runs.proofs.Common.{ShowsAt, Description, View, Mode, Success, Dropped, Reading, stop_of}
+use Rattle.inp_runs.proofs.Common.{ShowsAt, Description, View, Mode, Success, Dropped, ReaderState, stop_of}
 use Rattle.inp_runs.proofs.Common.{next_talk, EndsWith, Any, Listed, listed-run, length-map, map-append}
 use Rattle.inp_runs.proofs.Common.{past_at, eaten, noted_sight}
 use Rattle.std.specs.Prelude.{slice_get}
@@ -132,11 +132,11 @@ ComeFrom client old calls events =
     (events ≡ []) ⊎ (((calls ≡ []) × (events ≡ old)) ⊎ EndsWithRead client calls events)
 
 -- what a reader has at hand, behind these calls
-abbrev IsSourced : ℕ → List Taken → List Call → Reading → Type 0
+abbrev IsSourced : ℕ → List Taken → List Call → ReaderState → Type 0
 IsSourced client old calls r = (r.client ≡ client) × ComeFrom client old calls r.queue
 
 -- and with the event that it handed out
-abbrev HandsSourced : ℕ → List Taken → List Call → Next × Reading → Type 0
+abbrev HandsSourced : ℕ → List Taken → List Call → Next × ReaderState → Type 0
 HandsSourced client old calls o = ComeFrom client old calls (with_handed o.0 o.1.queue)
 
 -- a stop is no event
@@ -173,13 +173,13 @@ sourced-rules client old d mode = record {
   goes_on = λ s r h handing is. h;
 }
   where
-    renewed : (r : Reading) → r.client ≡ client → (t : List Call) (asked : Result View Reply)
+    renewed : (r : ReaderState) → r.client ≡ client → (t : List Call) (asked : Result View Reply)
         → Renewed (IsSourced client old) (HandsSourced client old) r t asked
     renewed r same t (Ok view) = (same, inl refl)
     renewed r same t (Err reply) = inl (stopped reply [])
 
 -- only a read fills a reader's queue, a synchronisation empties it, and else it stays
-pub next-sources : (d : Description) (mode : Mode) (r s : Reading) (next : Next) (calls : List Call)
+pub next-sources : (d : Description) (mode : Mode) (r s : ReaderState) (next : Next) (calls : List Call)
     → EndsWith (next_talk d mode r) calls (next, s)
     → ComeFrom r.client r.queue calls (with_handed next s.queue)
 next-sources d mode r s next calls ends =

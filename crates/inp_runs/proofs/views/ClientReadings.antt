@@ -6,7 +6,8 @@ use Rattle.inp_runs.proofs.Common.{Result, Ok, Err, true≢false, false_from_ne_
 use Rattle.inp_runs.proofs.Common.{length-take, Taken, Step, Reply, Opened, Description, past_at, opens}
 use Rattle.inp_runs.proofs.Common.{Answer, is_accepted, refused, taken_of, Call, HasPlace, IsLegalFrom}
 use Rattle.inp_runs.proofs.Common.{place_of, next_place, client_of, View, eaten, IsHistory, Each, Mode}
-use Rattle.inp_runs.proofs.Common.{Success, Dropped, NO_CLIENT, Started, Reading, queries, stop_of, next_talk}
+use Rattle.inp_runs.proofs.Common.{Success, Dropped, NO_CLIENT, Started, ReaderState, queries, stop_of}
+use Rattle.inp_runs.proofs.Common.{next_talk}
 use Rattle.inp_runs.proofs.Common.{is_use_of, Talk, finish, EndsWith, finished, split-and_then, Any}
 use Rattle.inp_runs.proofs.Common.{noted_sight, LastRead, AgreesIn, ShowsAt, is_read_as}
 use Rattle.std.specs.Prelude.{slice_get}
@@ -49,7 +50,7 @@ agrees-back d v w a = record {
   slot = λ some. sym (a.slot some);
 }
 
-handed-shows : (d : Description) (past : List Step) (r : Reading) (t : Taken) → IsHistory d past
+handed-shows : (d : Description) (past : List Step) (r : ReaderState) (t : Taken) → IsHistory d past
     → IsSpare d r.view → IsHandedOut d past r t
     → ShowsAt d past r.client (Some (index_handed_out d past r)) t r.view
 handed-shows d past r t history spare out =
@@ -112,7 +113,7 @@ module _ (d : Description) (h : List Step) where
 
 -- A reader that has opened no client hands out no event
 
-pub record IsUnopened (r : Reading) : Type 0 where
+pub record IsUnopened (r : ReaderState) : Type 0 where
   -- it reads as the number that no client has
   pub client : r.client ≡ NO_CLIENT
   -- it has no event at hand
@@ -126,7 +127,7 @@ HandsNone _ = Unit {0}
 none-stop : (reply : Reply) → HandsNone (stop_of reply)
 none-stop reply = stop-cases HandsNone reply (λ at ends is. tt) tt tt (λ at. tt)
 
-record StaysUnopened (o : Next × Reading) : Type 0 where
+record StaysUnopened (o : Next × ReaderState) : Type 0 where
   unopened : IsUnopened o.1
   none : HandsNone o.0
 
@@ -138,10 +139,10 @@ unfolding Runs
 shut-run [] shut = refl
 shut-run (call ∷ calls) shut = (tt, shut.0, shut-run calls shut.1)
 
-abbrev Unopened : Unit {0} → Reading → Type 0
+abbrev Unopened : Unit {0} → ReaderState → Type 0
 Unopened s r = IsUnopened r
 
-abbrev Stays : Unit {0} → Next × Reading → Type 0
+abbrev Stays : Unit {0} → Next × ReaderState → Type 0
 Stays s o = StaysUnopened o
 
 unopened-rules : (d : Description) (mode : Mode) → NextRules Any ShutBy Unopened Stays d mode
@@ -169,7 +170,7 @@ unopened-rules d mode = record {
   goes_on = λ s r u handing is. record { client = u.client; queue = u.queue };
 }
   where
-    named : (r : Reading) → IsUnopened r → ◌≡◌ {A = Option ℕ} (Some r.client) (Some NO_CLIENT)
+    named : (r : ReaderState) → IsUnopened r → ◌≡◌ {A = Option ℕ} (Some r.client) (Some NO_CLIENT)
     named r u = rw u.client
 
 -- Where a reader stands
@@ -177,25 +178,25 @@ unopened-rules d mode = record {
 module _ (d : Description) (h : List Step) (Q : ℕ → Type 0) where
   -- It stands in the past before this place as one of its clients, or has opened none. What its device cannot
   -- have is off.
-  pub record IsReadingAt (least : ℕ) (r : Reading) : Type 0 where
+  pub record IsReadingAt (least : ℕ) (r : ReaderState) : Type 0 where
     -- what the device cannot have is off in its view
     pub spare : HasSpare d r
     -- it stands in the past as one of its clients, or has opened none
     pub stands : (Q r.client × IsOpenInStep d (past_at h least) r) ⊎ IsUnopened r
 
   -- what an event shows that it hands out
-  abbrev pub HandsAt : ℕ → Next → Reading → Type 0
+  abbrev pub HandsAt : ℕ → Next → ReaderState → Type 0
   HandsAt least (Success taken) r =
       ShowsAt d (reverse h) r.client (Some (index_handed_out d (past_at h least) r)) taken r.view
   HandsAt least _ r = Unit {0}
 
-  pub record NextReads (least : ℕ) (next : Next) (r : Reading) : Type 0 where
+  pub record NextReads (least : ℕ) (next : Next) (r : ReaderState) : Type 0 where
     -- its reader stands at the place
     pub reading : IsReadingAt least r
     -- an event that it handed out is shown at its own index
     pub hands : HandsAt least next r
 
-  hands-later : (least : ℕ) (next : Next) (r : Reading) → IsHistory d (reverse h) → IsSpare d r.view
+  hands-later : (least : ℕ) (next : Next) (r : ReaderState) → IsHistory d (reverse h) → IsSpare d r.view
       → HandsOut d (past_at h least) next r → HandsAt least next r
   hands-later least (Success taken) r history spare out =
       let own : Option ℕ = Some (index_handed_out d (past_at h least) r) in
@@ -204,12 +205,12 @@ module _ (d : Description) (h : List Step) (Q : ℕ → Type 0) where
       (handed-shows d (past_at h least) r taken (history-at d h least history) spare out))
   hands-later least _ r history spare out = tt
 
-  hands-none : (least : ℕ) (next : Next) (r : Reading) → HandsNone next → HandsAt least next r
+  hands-none : (least : ℕ) (next : Next) (r : ReaderState) → HandsNone next → HandsAt least next r
   hands-none least (Success taken) r none = absurd none
   hands-none least _ r none = tt
 
   -- its calls are its client's, and no other use comes between; where it opened none all are refused
-  pub next-reads : (least : ℕ) (mode : Mode) (r s : Reading) (next : Next) (calls more : List Call)
+  pub next-reads : (least : ℕ) (mode : Mode) (r s : ReaderState) (next : Next) (calls more : List Call)
       → IsHistory d (reverse h) → length h < NO_CLIENT → AreToCome d h Q least (calls ++ more)
       → IsReadingAt least r → EndsWith (next_talk d mode r) calls (next, s)
       → NextReads (place_behind least calls) next s
@@ -243,7 +244,7 @@ module _ (d : Description) (h : List Step) (Q : ℕ → Type 0) where
           }
 
   -- a call that is no use of its client leaves it
-  pub quiet-reads : (least : ℕ) (r : Reading) (call : Call) (more : List Call)
+  pub quiet-reads : (least : ℕ) (r : ReaderState) (call : Call) (more : List Call)
       → AreToCome d h Q least (call ∷ more) → is_use_of r.client call.step ≡ false → IsReadingAt least r
       → IsReadingAt (next_place call.answer.reply) r
   quiet-reads least r call more c unused reads = record {
@@ -266,7 +267,7 @@ module _ (d : Description) (h : List Step) (Q : ℕ → Type 0) where
   }
 
   -- nor does it change what is at hand
-  pub quiet-hand : (least : ℕ) (r : Reading) (call : Call) (more : List Call) (last : Option LastRead)
+  pub quiet-hand : (least : ℕ) (r : ReaderState) (call : Call) (more : List Call) (last : Option LastRead)
       → AreToCome d h Q least (call ∷ more) → is_use_of r.client call.step ≡ false → IsReadingAt least r
       → AreAtHand d h least r.client last r.queue
       → AreAtHand d h (next_place call.answer.reply) r.client last r.queue
@@ -281,7 +282,7 @@ module _ (d : Description) (h : List Step) (Q : ℕ → Type 0) where
   ]
 
   -- what an accepted Open leaves: a client that did nothing yet
-  opened-stands : (least at client ring : ℕ) (r : Reading) (call : Call) (calls more : List Call)
+  opened-stands : (least at client ring : ℕ) (r : ReaderState) (call : Call) (calls more : List Call)
       (asked : Result View Reply) → AreToCome d h Q least (call ∷ calls ++ more)
       → call.answer.reply ≡ Opened at client ring → HasSpare d r
       → EndsWith (ask_each (queries d client) r.view) calls asked
@@ -308,19 +309,19 @@ module _ (d : Description) (h : List Step) (Q : ℕ → Type 0) where
             (spare-made_anew d client r.view spare.view) met ends,
       )
 
-  client-queried : (client ring : ℕ) (r : Reading) (asked : Result View Reply)
+  client-queried : (client ring : ℕ) (r : ReaderState) (asked : Result View Reply)
       → (after_queries client ring r asked).1.client ≡ client
   client-queried client ring r (Ok view) = refl
   client-queried client ring r (Err reply) = refl
 
-  start-opened : (least at client ring : ℕ) (r s : Reading) (started : Started) (call : Call)
+  start-opened : (least at client ring : ℕ) (r s : ReaderState) (started : Started) (call : Call)
       (calls more : List Call) → AreToCome d h Q least (call ∷ calls ++ more)
       → call.answer.reply ≡ Opened at client ring → HasSpare d r
       → EndsWith (after_open d r (Opened at client ring)) calls (started, s)
       → Q s.client × IsOpenInStep d (past_at h (place_behind (next_place call.answer.reply) calls)) s
   start-opened least at client ring r s started call calls more c is spare ends =
       let n : ℕ = next_place call.answer.reply in
-      let next : Result View Reply → Talk (Started × Reading) =
+      let next : Result View Reply → Talk (Started × ReaderState) =
       λ asked. finish (after_queries client ring r asked) in
       let p = split-and_then (ask_each (queries d client) r.view) next calls (started, s) ends in
       let f = finished (after_queries client ring r p.between) (started, s) p.later p.later_ends in
@@ -335,7 +336,7 @@ module _ (d : Description) (h : List Step) (Q : ℕ → Type 0) where
       (simp (← same) (own, t.1))
 
   -- an accepted Open leaves a client with no calls before its queries, a refused one changes nothing
-  pub start-reads : (least : ℕ) (r s : Reading) (started : Started) (calls more : List Call)
+  pub start-reads : (least : ℕ) (r s : ReaderState) (started : Started) (calls more : List Call)
       → AreToCome d h Q least (calls ++ more) → IsReadingAt least r
       → EndsWith (start_talk d r) calls (started, s) → IsReadingAt (place_behind least calls) s
   unfolding LeadsTo start_talk
@@ -359,17 +360,17 @@ module _ (d : Description) (h : List Step) (Q : ℕ → Type 0) where
           }
       by reply is e =
           let f = finished (start_stop_of reply, r) (started, s) calls e in
-          let same : r ≡ s = ap (λ (o : Started × Reading). o.1) f.1 in
+          let same : r ≡ s = ap (λ (o : Started × ReaderState). o.1) f.1 in
           let quiet : IsReadingAt n r = quiet-reads least r call (calls ++ more) c (rw ends.0) reads in
           subst (IsReadingAt (place_behind n calls)) same (rw f.0 quiet)
 
-  no-queue : (client ring : ℕ) (r : Reading) (asked : Result View Reply)
+  no-queue : (client ring : ℕ) (r : ReaderState) (asked : Result View Reply)
       → (after_queries client ring r asked).1.queue ≡ []
   no-queue client ring r (Ok view) = refl
   no-queue client ring r (Err reply) = refl
 
   -- a start leaves nothing at hand, or all as it was
-  pub start-hand : (least : ℕ) (r s : Reading) (started : Started) (calls more : List Call) (last : ℕ
+  pub start-hand : (least : ℕ) (r s : ReaderState) (started : Started) (calls more : List Call) (last : ℕ
       → Option LastRead) → AreToCome d h Q least (calls ++ more) → IsReadingAt least r
       → EndsWith (start_talk d r) calls (started, s)
       → AreAtHand d h least r.client (last r.client) r.queue
@@ -386,14 +387,14 @@ module _ (d : Description) (h : List Step) (Q : ℕ → Type 0) where
           → AreAtHand d h (place_behind n calls) s.client
           (read_after_sight s.client (last s.client) (noted_sight (call ∷ calls))) s.queue
       by (Opened at client ring) e =
-          let next : Result View Reply → Talk (Started × Reading) =
+          let next : Result View Reply → Talk (Started × ReaderState) =
           λ asked. finish (after_queries client ring r asked) in
           let p = split-and_then (ask_each (queries d client) r.view) next calls (started, s) e in
           let f = finished (after_queries client ring r p.between) (started, s) p.later p.later_ends in
-          inl (ap (λ (o : Started × Reading). o.1.queue) (sym f.1) ∙ no-queue client ring r p.between)
+          inl (ap (λ (o : Started × ReaderState). o.1.queue) (sym f.1) ∙ no-queue client ring r p.between)
       by reply e =
           let f = finished (start_stop_of reply, r) (started, s) calls e in
-          let same : r ≡ s = ap (λ (o : Started × Reading). o.1) f.1 in
+          let same : r ≡ s = ap (λ (o : Started × ReaderState). o.1) f.1 in
           let quiet : AreAtHand d h n r.client (last r.client) r.queue =
           quiet-hand least r call (calls ++ more) (last r.client) c (rw ends.0) reads hand in
           let other : is_read_as r.client call.step ≡ false = rw ends.0 in

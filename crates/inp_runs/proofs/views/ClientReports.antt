@@ -13,7 +13,7 @@ use Rattle.inp_reader.proofs.Meets.{Runs}
 use Rattle.inp_runs.proofs.Common.{true≢false, cond_both, eqb-true, Taken, Step, Reply, Description, past_at}
 use Rattle.inp_runs.proofs.Common.{Answer, accepted, Call, HasPlace, place_of, is_open_step, Command, Client}
 use Rattle.inp_runs.proofs.Common.{is_command_of, eaten, View, IsHistory, Mode, Success, Dropped, Sync}
-use Rattle.inp_runs.proofs.Common.{NO_CLIENT, Started, Reading, start_talk, next_talk, is_use, is_use_of}
+use Rattle.inp_runs.proofs.Common.{NO_CLIENT, Started, ReaderState, start_talk, next_talk, is_use, is_use_of}
 use Rattle.inp_runs.proofs.Common.{Talk, finish, EndsWith, Sight, Took, Stop, Waiting, OfTurn, OfGoing}
 use Rattle.inp_runs.proofs.Common.{LineRules, OfJob, read_so, Job, first_job, after_call, tap_client_after}
 use Rattle.inp_runs.proofs.Common.{step_of, noted, call_sight, noted_sight, LastRead, reads_as, is_read_as}
@@ -30,7 +30,8 @@ use Rattle.inp_reader.specs.TrueView.{index_handed_out}
 use Rattle.inp_reader.proofs.StandsByCalls.{client-next}
 use Rattle.inp_reader.proofs.TalksKeepSpare.{new-spare}
 use Rattle.inp_script.specs.declared.sight.Sight.TheVariants.{Again as AgainSight, Made}
-use Rattle.inp_script.specs.Client.{Going, Turn, start_job, start_ends, job_after_start, after_next, mode_of}
+use Rattle.inp_script.specs.Client.{LineProgress, Turn, start_job, start_ends, job_after_start, after_next}
+use Rattle.inp_script.specs.Client.{mode_of}
 use Rattle.inp_script.specs.Client.{with_sight, with_stop, next_round, forced}
 use Rattle.inp_script.specs.Fold.{settled, after_first_call, client_fold}
 use Rattle.inp_script.proofs.ClientFolds.{next-folds, entries_of_next, start-folds}
@@ -255,7 +256,7 @@ module _ (d : Description) (h : List Step) (Q : ℕ → Type 0) (history : IsHis
   noted-hand at client now sight calls queue same hand = rw (same, read_after-append) hand
 
   -- the job behind an answer of its reader
-  next-job : (s t : Coming d h Q) (mode : Mode) (j : Job) (calls : List Call) (o : Next × Reading)
+  next-job : (s t : Coming d h Q) (mode : Mode) (j : Job) (calls : List Call) (o : Next × ReaderState)
       → Runs (Comes d h Q) s calls t → EndsWith (next_talk d mode j.reading) calls o → IsClientOn s j
       → AfterNext IsClientOn t o.0 (read_so j o.1 (j.sight ++ noted_sight calls))
   next-job s t mode j calls o run ends i =
@@ -285,14 +286,15 @@ module _ (d : Description) (h : List Step) (Q : ℕ → Type 0) (history : IsHis
       hand)
       reads.hands names.1
 
-  round-job : (s : Coming d h Q) (wait : Option Waiting) (skips : Bool) (g : Going) → IsClientOn s g.job
+  round-job : (s : Coming d h Q) (wait : Option Waiting) (skips : Bool) (g : LineProgress)
+      → IsClientOn s g.job
       → Meets Any (Comes d h Q) (OfTurn IsClientOn (OfGoing IsClientOn)) s (next_round d wait skips g)
   unfolding next_round
   round-job s wait skips g i =
       let mode : Mode = mode_of skips g.job.reading.phase in
-      let talk : Talk (Next × Reading) = next_talk d mode g.job.reading in
+      let talk : Talk (Next × ReaderState) = next_talk d mode g.job.reading in
       let T : Coming d h Q → Turn → Type 0 = OfTurn IsClientOn (OfGoing IsClientOn) in
-      let A : Coming d h Q → (Next × Reading) × List Sight → Type 0 = λ t o. T t (after_next wait g o) in
+      let A : Coming d h Q → (Next × ReaderState) × List Sight → Type 0 = λ t o. T t (after_next wait g o) in
       meets-then Any (Comes d h Q) A T s (noted talk g.job.sight) (λ o. finish (after_next wait g o))
       (noted-ends-meet (Comes d h Q) A s g.job.sight talk (λ t calls o run ends.
       turn-of IsClientOn (λ u k stop. stop-job u.place k stop) t wait g.left g.agains o.0
@@ -301,7 +303,7 @@ module _ (d : Description) (h : List Step) (Q : ℕ → Type 0) (history : IsHis
 
   -- Starts
 
-  started-job : (s t : Coming d h Q) (j : Job) (calls : List Call) (o : Started × Reading)
+  started-job : (s t : Coming d h Q) (j : Job) (calls : List Call) (o : Started × ReaderState)
       → Runs (Comes d h Q) s calls t → EndsWith (start_talk d j.reading) calls o → IsClientOn s j
       → IsClientOn t (job_after_start o.0 o.1 (j.sight ++ noted_sight calls))
   started-job s t j calls o run ends i =
@@ -326,8 +328,8 @@ module _ (d : Description) (h : List Step) (Q : ℕ → Type 0) (history : IsHis
       → Meets Any (Comes d h Q) (OfJob IsClientOn) s (start_job d j)
   unfolding start_job
   start-job s j i =
-      let talk : Talk (Started × Reading) = start_talk d j.reading in
-      let A : Coming d h Q → (Started × Reading) × List Sight → Type 0 = λ t o.
+      let talk : Talk (Started × ReaderState) = start_talk d j.reading in
+      let A : Coming d h Q → (Started × ReaderState) × List Sight → Type 0 = λ t o.
       IsClientOn t (job_after_start o.0.0 o.0.1 o.1) in
       meets-then Any (Comes d h Q) A (OfJob IsClientOn) s (noted talk j.sight) (λ o. finish (start_ends o))
       (noted-ends-meet (Comes d h Q) A s j.sight talk (λ t calls o run ends. started-job s t j calls o run

@@ -10,7 +10,7 @@ use Rattle.inp_runs.proofs.Common.{Result, Ok, Err, true≢false, cond_both, sam
 use Rattle.inp_runs.proofs.Common.{GetKeys, GetSwitches, GetLeds, End, Reply, Opened, Description, Answer}
 use Rattle.inp_runs.proofs.Common.{Call, client_of, is_open_step, Command, Tick, Inhibit, Uninhibit, Stream}
 use Rattle.inp_runs.proofs.Common.{Stream16, Skip, Follow, Force, Feedback, Line, Role, Source, Client, Tap}
-use Rattle.inp_runs.proofs.Common.{Joy, Owner, View, Each, Mode, Dropped, Started, NO_CLIENT, Reading}
+use Rattle.inp_runs.proofs.Common.{Joy, Owner, View, Each, Mode, Dropped, Started, NO_CLIENT, ReaderState}
 use Rattle.inp_runs.proofs.Common.{queries, start_talk, stop_of, next_talk, Meets, Any, Listed, meets-ends}
 use Rattle.inp_runs.proofs.Common.{listed-run, Talk, finish, EndsWith, Sight, Waiting, Job, first_job}
 use Rattle.inp_runs.proofs.Common.{joying_of, step_of, after_call, source_talk, tap_client_after, tap_call_if}
@@ -104,7 +104,7 @@ of_queries d client = record {
 abbrev SoFar : ℕ → ℕ → List Call → View → List Step → Type 0
 SoFar first client s view left = Named first s client × Each (IsNamed client) left
 
-abbrev OfStart : ℕ → List Call → Started × Reading → Type 0
+abbrev OfStart : ℕ → List Call → Started × ReaderState → Type 0
 OfStart first s o = Named first s o.1.client
 
 -- an answer that tells of a loss has it in its event
@@ -112,13 +112,13 @@ abbrev pub Drops : Next → Type 0
 Drops (Dropped taken) = is_dropped taken.event ≡ true
 Drops _ = Unit {0}
 
-abbrev OfAnswer : ℕ → List Call → Next × Reading → Type 0
+abbrev OfAnswer : ℕ → List Call → Next × ReaderState → Type 0
 OfAnswer first s o = Named first s o.1.client × Drops o.0
 
 drops-stop : (reply : Reply) → Drops (stop_of reply)
 drops-stop reply = stop-cases Drops reply (λ at ends is. tt) tt tt (λ at. tt)
 
-abbrev IsReader : ℕ → List Call → Reading → Type 0
+abbrev IsReader : ℕ → List Call → ReaderState → Type 0
 IsReader first s r = Named first s r.client
 
 -- a command's step names the client, or none
@@ -182,7 +182,7 @@ module _ (first : ℕ) where
     whole = λ s view j. whole s view j.0;
   }
 
-  names-start : (d : Description) (r : Reading) (s : List Call) → Named first s r.client
+  names-start : (d : Description) (r : ReaderState) (s : List Call) → Named first s r.client
       → Meets Any Listed (OfStart first) s (start_talk d r)
   names-start d r s h =
       start-meets Any Listed (OfStart first) d r s (record {
@@ -227,13 +227,13 @@ module _ (first : ℕ) where
     goes_on = λ s r h handing is. h;
   }
     where
-      read : (s t : List Call) (r : Reading) (a : Answer) → Named first s r.client
+      read : (s t : List Call) (r : ReaderState) (a : Answer) → Named first s r.client
           → Listed s (ToRead r.client 64) a t → Named first t r.client
       read s t r a h by =
           named-by s t r.client (ToRead r.client 64) a h
           (names-it r.client (ToRead r.client 64) refl, refl) by
 
-  names-next : (d : Description) (mode : Mode) (r : Reading) (s : List Call) → Named first s r.client
+  names-next : (d : Description) (mode : Mode) (r : ReaderState) (s : List Call) → Named first s r.client
       → Meets Any Listed (OfAnswer first) s (next_talk d mode r)
   names-next d mode r s h =
       next-meets Any Listed (IsReader first) (OfAnswer first) d mode (names-rules d mode) s r h
@@ -273,11 +273,12 @@ module _ (first : ℕ) where
         (note-meets Listed (OfStart first) s j.sight (start_talk d j.reading) (names-start d j.reading s h));
     begins = λ e s j left h. h;
     rounds = λ e s waits skips g none h.
-        let talk : Talk (Next × Reading) = next_talk d (mode_of skips g.job.reading.phase) g.job.reading in
+        let talk : Talk (Next × ReaderState) = next_talk d
+        (mode_of skips g.job.reading.phase) g.job.reading in
         round-meets Listed (Reads Client first) (OfGoing (Reads Client first)) d s waits skips g
         (meets-weaker Any (NotedBy Listed)
-        (λ (u : List Call × List Sight) (o : Next × Reading). OfAnswer first u.0 o)
-        (λ (u : List Call × List Sight) (o : Next × Reading).
+        (λ (u : List Call × List Sight) (o : Next × ReaderState). OfAnswer first u.0 o)
+        (λ (u : List Call × List Sight) (o : Next × ReaderState).
         OfTurn (Reads Client first) (OfGoing (Reads Client first)) u.0 (after_next waits g (o, u.1)))
         (s, g.job.sight) talk
         (note-meets Listed (OfAnswer first) s g.job.sight talk
@@ -309,8 +310,8 @@ module _ (first : ℕ) where
     starts = λ s j h.
         start_joystick-meets Listed (Reads Joy first) d s j
         (meets-weaker Any (NotedBy Listed)
-        (λ (u : List Call × List Sight) (o : Started × Reading). OfStart first u.0 o)
-        (λ (u : List Call × List Sight) (o : Started × Reading). (stick : Stick)
+        (λ (u : List Call × List Sight) (o : Started × ReaderState). OfStart first u.0 o)
+        (λ (u : List Call × List Sight) (o : Started × ReaderState). (stick : Stick)
         → Reads Joy first u.0 (record (job_after_start o.0 o.1 u.1) { stick = stick }))
         (s, j.sight) (start_talk d j.reading)
         (note-meets Listed (OfStart first) s j.sight (start_talk d j.reading) (names-start d j.reading s h))
@@ -333,7 +334,7 @@ module _ (first : ℕ) where
   }
     where
       Answers : List Call → Option JoyAnswer → Type 0
-      Answers s o = JoyAnswers (λ (t : List Call) (read : JoyRead) (r : Reading). IsReader first t r) s o
+      Answers s o = JoyAnswers (λ (t : List Call) (read : JoyRead) (r : ReaderState). IsReader first t r) s o
 
       of_read : (s : List Call) (read : JoyRead) (j : Job) → Reads Joy first s j
           → AfterRead (Reads Joy first) s read j
@@ -375,14 +376,14 @@ module _ (first : ℕ) where
       (no-client s t j (after_call j End a) End a (rw e at h) (names-none NO_CLIENT End refl) by)) h
 
 -- the client that a reader's calls opened last
-pub start-names : (d : Description) (r s : Reading) (started : Started) (calls : List Call)
+pub start-names : (d : Description) (r s : ReaderState) (started : Started) (calls : List Call)
     → EndsWith (start_talk d r) calls (started, s) → last_opened r.client calls ≡ s.client
 start-names d r s started calls h =
     (meets-ends Any Listed (OfStart r.client) [] calls (start_talk d r) calls (started, s)
     (names-start r.client d r [] (named-none r.client)) (listed-run [] calls) h).1
 
 -- a next opens no client, and what it answers as a loss is a SYN_DROPPED
-pub next-names : (d : Description) (mode : Mode) (r s : Reading) (next : Next) (calls : List Call)
+pub next-names : (d : Description) (mode : Mode) (r s : ReaderState) (next : Next) (calls : List Call)
     → EndsWith (next_talk d mode r) calls (next, s) → (last_opened r.client calls ≡ s.client) × Drops next
 next-names d mode r s next calls h =
     let k : OfAnswer r.client calls (next, s) =

@@ -1,7 +1,7 @@
 //! What a client does, which reads by a reader.
 ghost use Rattle.std.specs.Prelude.{◌≡◌, ◌<◌, ◌^◌, ℕ, suc, true, OnOk, IfOk, IfSome, IfNone, Some};
 ghost use Rattle.inp_reader.specs.Effort.{effort};
-ghost use Rattle.inp_reader.specs.Reader.{Reading};
+ghost use Rattle.inp_reader.specs.Reader.{ReaderState};
 ghost use Rattle.inp_script.specs.Client.{start_job, client_talk, hand_talk, next_round, rounds, turn_after, after_again, patience, handed, is_done, one_less, mode_of};
 ghost use Rattle.inp_actors.specs.declared.role.Role.TheVariants.{Client};
 ghost use Rattle.inp_actors.specs.Command.{is_command_of, is_in_range};
@@ -132,7 +132,7 @@ impl Notes {
         ends: u32,
     ) -> Result<Turn, NoMemory>
         requires patient { progress.agains < 2 ^ 32 }
-        ensures turn { IfOk result (λ turn. (r : Reading) →
+        ensures turn { IfOk result (λ turn. (r : ReaderState) →
             after_again (patience wait ends) progress.left (suc progress.agains) at ends
             (job_of r self.old) ≡ turn_of turn (job_of r self.new)) }
         ensures patient { IfOk result IsPatient }
@@ -166,7 +166,7 @@ impl Notes {
         next: Next,
     ) -> Result<Turn, NoMemory>
         requires patient { progress.agains < 2 ^ 32 }
-        ensures turn { IfOk result (λ turn. (r : Reading) →
+        ensures turn { IfOk result (λ turn. (r : ReaderState) →
             turn_after wait progress.left progress.agains next (job_of r self.old)
             ≡ turn_of turn (job_of r self.new)) }
         ensures patient { IfOk result IsPatient }

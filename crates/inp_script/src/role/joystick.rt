@@ -2,7 +2,7 @@
 ghost use Rattle.std.specs.Prelude.{◌≡◌, ℕ, true, Option, OnOk, IfOk, Some};
 ghost use Rattle.inp_actors.specs.declared.role.Role.TheVariants.{Joy as JoyRole};
 ghost use Rattle.inp_actors.specs.Command.{is_command_of};
-ghost use Rattle.inp_joy.specs.Joy.{Joying};
+ghost use Rattle.inp_joy.specs.Joy.{JoystickState};
 ghost use Rattle.inp_reader.specs.Effort.{effort};
 ghost use Rattle.inp_reader.specs.Talk.{Talk};
 ghost use Rattle.inp_script.specs.DoneLine.{Begins, Holds};
@@ -47,7 +47,7 @@ fn start<E: Evdev>(dev: &mut E, joy: &mut Joy, notes: &mut Notes) -> Result<(), 
 impl Notes {
     // Notes what a read answered, with the bytes that it handed out.
     fn note_read(&mut self, read: JoyRead, bytes: [u8; 8]) -> Result<AfterRead, NoMemory>
-        ensures { IfOk result (λ after. (go_on : Job → Talk (Option Reach)) (k : Joying) →
+        ensures { IfOk result (λ after. (go_on : Job → Talk (Option Reach)) (k : JoystickState) →
             after_bytes go_on read bytes (joy_job k self.old)
             ≡ then_reads go_on after (joy_job k self.new)) }
     {

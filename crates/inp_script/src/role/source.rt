@@ -2,7 +2,7 @@
 ghost use Rattle.std.specs.Prelude.{OnOk, Some};
 ghost use Rattle.inp_actors.specs.declared.role.Role.TheVariants.{Source};
 ghost use Rattle.inp_model.specs.Injection.{AreInTime};
-ghost use Rattle.inp_reader.specs.Reader.{Reading};
+ghost use Rattle.inp_reader.specs.Reader.{ReaderState};
 ghost use Rattle.inp_script.specs.DoneLine.{Begins, Holds, IsCommandFor};
 ghost use Rattle.inp_script.specs.Line.{stream_talk, source_talk};
 ghost use Rattle.inp_script.specs.Notes.{job_of};
@@ -23,9 +23,9 @@ pub(crate) fn inject_stream<E: Evdev>(
     stream: &[Stamped],
 ) -> Result<(), NoMemory>
     requires in_time { AreInTime stream.now }
-    ensures done { OnOk result ((r : Reading) → Holds (E.told dev.old) (E.told dev.new)
+    ensures done { OnOk result ((r : ReaderState) → Holds (E.told dev.old) (E.told dev.new)
         (stream_talk stream.now (job_of r notes.old)) (Some (job_of r notes.new))) }
-    ensures begun { (r : Reading) → Begins (E.told dev.old) (E.told dev.new)
+    ensures begun { (r : ReaderState) → Begins (E.told dev.old) (E.told dev.new)
         (stream_talk stream.now (job_of r notes.old)) }
 {
     let mut rest = stream;
@@ -47,10 +47,10 @@ pub(crate) fn do_source_command<E: Evdev>(
     command: &Command,
 ) -> Result<(), NoMemory>
     requires command { IsCommandFor Source rec.now.streams command.now }
-    ensures done { OnOk result ((r : Reading) → Holds (E.told dev.old) (E.told dev.new)
+    ensures done { OnOk result ((r : ReaderState) → Holds (E.told dev.old) (E.told dev.new)
         (source_talk rec.now.streams command.now (job_of r notes.old))
         (Some (job_of r notes.new))) }
-    ensures begun { (r : Reading) → Begins (E.told dev.old) (E.told dev.new)
+    ensures begun { (r : ReaderState) → Begins (E.told dev.old) (E.told dev.new)
         (source_talk rec.now.streams command.now (job_of r notes.old)) }
 {
     if let Some(index) = command.stream_index() {

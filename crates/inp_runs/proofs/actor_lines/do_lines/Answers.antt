@@ -1,5 +1,5 @@
 use Rattle.std.proofs.Common.{◌≡◌, take, refl, sym, ap, ◌∙◌, arith, take-add}
-use Rattle.inp_runs.proofs.Common.{take_all, is_owner, ActorView, Owning, lines_by}
+use Rattle.inp_runs.proofs.Common.{take_all, is_owner, ActorView, OwnerState, lines_by}
 use Rattle.std.proofs.lemmas.Result.{on_ok_weaker}
 use Rattle.inp_runs.proofs.DoingAll.{acted_on-none, acted_on-next, acted_on-described, done-none, done-more}
 use Rattle.inp_runs.proofs.DoingAll.{done-all, own-count}
@@ -77,7 +77,7 @@ returns g c =
           c.end_lines.ensures.actor
           ∙ ap (λ (x : ActorView). record x { job = c.end_lines.new.actor.job })
           c.loop-from.invariant.actor
-          ∙ ap (λ (o : Owning). record c.args.actor.now { job = c.end_lines.new.actor.job; owning = o })
+          ∙ ap (λ (o : OwnerState). record c.args.actor.now { job = c.end_lines.new.actor.job; owning = o })
           (sym (ap (λ (a : ActorView). a.owning) c.end_lines.ensures.actor));
       left =
           acted_on-next g.D.Evdev.told g.D.Feeds.feeds _ _ _ _ _

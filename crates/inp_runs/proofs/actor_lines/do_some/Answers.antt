@@ -16,26 +16,26 @@ gather-count-requires g c = record {
       (length c.args.lines.now - c.args.from) c.args.from c.args.lines.now c.requires.lines;
 }
 
-pub act-requires-clause-line : goal.act-requires-clause-line
-act-requires-clause-line g c =
+pub do_line-requires-clause-line : goal.do_line-requires-clause-line
+do_line-requires-clause-line g c =
     let own =
     own-line c.args.rec.now c.args.number c.args.lines.now c.args.from _ c.requires.lines
     (slice_get-get_or c.args.lines.now c.args.from 0 c.requires.from) in
     record { line = own.line; is_line = own.is_line; is_actor = own.is_actor ∙ sym c.requires.number }
 
-pub returns-in_err-act-clause-left : goal.returns-in_err-act-clause-left
-returns-in_err-act-clause-left g c =
-    acted_on-begun g.D.Evdev.told g.D.Feeds.feeds _ _ c.args.rec.now c.args.wait _ _ c.act.ensures.begun
+pub returns-in_err-do_line-clause-left : goal.returns-in_err-do_line-clause-left
+returns-in_err-do_line-clause-left g c =
+    acted_on-begun g.D.Evdev.told g.D.Feeds.feeds _ _ c.args.rec.now c.args.wait _ _ c.do_line.ensures.begun
 
 pub returns-then-count-lt2-clause-done : goal.returns-then-count-lt2-clause-done
 returns-then-count-lt2-clause-done g c =
     acted-line g.D.Evdev.told g.D.Feeds.feeds c.args.rec.now c.args.wait _ _ c.args.number c.args.from _ _ _
     (own-line c.args.rec.now c.args.number c.args.lines.now c.args.from _ c.requires.lines
-    (slice_get-get_or c.args.lines.now c.args.from 0 c.requires.from)) c.in_ok-act.ensures.done
+    (slice_get-get_or c.args.lines.now c.args.from 0 c.requires.from)) c.in_ok-do_line.ensures.done
 
 pub returns-then-count-lt2-clause-left : goal.returns-then-count-lt2-clause-left
 returns-then-count-lt2-clause-left g c =
-    acted_on-begun g.D.Evdev.told g.D.Feeds.feeds _ _ c.args.rec.now c.args.wait _ _ c.act.ensures.begun
+    acted_on-begun g.D.Evdev.told g.D.Feeds.feeds _ _ c.args.rec.now c.args.wait _ _ c.do_line.ensures.begun
 
 -- Lines that inject events
 

@@ -1,6 +1,6 @@
 -- What comes of an owner on a short row, computed.
 use Rattle.std.proofs.Common.{pos, refl, [], ◌∷◌, inl, inr}
-use Rattle.inp_runs.proofs.Common.{Inject, Owning}
+use Rattle.inp_runs.proofs.Common.{Inject, OwnerState}
 use Rattle.inp_feedback.specs.declared.u_entry.UEntry.TheVariants.{Made, Feedback}
 use Rattle.inp_feedback.specs.declared.fed.Fed.TheVariants.{Took, Full}
 use Rattle.inp_feedback.specs.Examples.{bell}
@@ -11,7 +11,7 @@ use Rattle.inp_runs.proofs.laws.owners_on_a_short_row.Goals as goal
 use Rattle.inp_script.specs.Owner.{first_owning, after_feedback}
 
 -- told of the bell
-abbrev told_once : Owning
+abbrev told_once : OwnerState
 told_once = after_feedback (Took 1 1) (bell (pos 1) ∷ []) first_owning
 
 takes : TakesTheBellOnce

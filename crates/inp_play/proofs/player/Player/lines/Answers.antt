@@ -46,8 +46,8 @@ leaves r number count rounds old new line text a b device after f some within de
 
 -- One line that injects no event
 
-pub act-requires : goal.act-requires
-act-requires c =
+pub do_line-requires : goal.do_line-requires
+do_line-requires c =
     let r = c.args.rec.now in
     let a = c.index_mut-actor.result.now in
     let f =
@@ -74,20 +74,20 @@ returns-then-count-eq0 c =
     let line : Line = c.get-text.result.now in
     let text : ActorText = c.get.result.now in
     let a = c.index_mut-actor.result.now in
-    let b = c.act.new.self in
+    let b = c.do_line.new.self in
     let device = c.index_mut-dev.result.now in
-    let after = c.act.new.dev in
+    let after = c.do_line.new.dev in
     let f = found_by r old number line text a device _ _ c.lines-lines.ensures.record c.requires.player
     c.lines-lines.ensures.lines c.get-text.ensures.item c.actors.ensures.actors c.get.ensures.item
     c.index_mut-actor.ensures.value c.index_mut-dev.ensures.value in
-    let did = c.in_ok-act.ensures.done in
+    let did = c.in_ok-do_line.ensures.done in
     let acts = rw (same_item r.lines number did.line line did.is_line f.is_line) at did.acts in
     let does =
     act_does r old.devices.items old.actors.items number line text a b device after
     c.lines-lines.ensures.record f acts in
     let all =
     leaves r number 1 does.0 old _ line text a b device after f (omega arith)
-    (omega (arith, c.requires.line)) refl refl c.in_ok-act.ensures.actor
+    (omega (arith, c.requires.line)) refl refl c.in_ok-do_line.ensures.actor
     (act_described r line a b device after acts)
     (one-line r does.0 number (stage_of old) _ line f.is_line does.1) in
     record { done = all.done; player = all.player }

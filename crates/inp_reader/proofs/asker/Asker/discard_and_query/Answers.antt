@@ -1,7 +1,7 @@
 use Rattle.std.proofs.Common.{sym, ◌∙◌, [], ◌∷◌}
 use Rattle.inp_model.specs.declared.step.Step.TheVariants.{Discard}
 use Rattle.inp_reader.specs.Reader.{queries}
-use Rattle.inp_reader.proofs.SaysInTurn.{says-stop-if, says-go-on}
+use Rattle.inp_reader.proofs.TalksInTurn.{says-stop-if, says-go-on}
 use Rattle.inp_reader.proofs.asker.Asker.discard_and_query.Goals as goal
 
 -- a Discard that is not accepted ends the talk, and no query follows

@@ -2,7 +2,7 @@ use Rattle.std.proofs.Common.{rules, ap, ◌∙◌, ◌≡◌, false, true, List
 use Rattle.inp_model.specs.Reply.{is_accepted}
 use Rattle.inp_recon.specs.declared.view.View.{View}
 use Rattle.inp_recon.specs.View.{view_after_answer}
-use Rattle.inp_reader.proofs.SaysInTurn.{says-accepted, says-refused}
+use Rattle.inp_reader.proofs.TalksInTurn.{says-accepted, says-refused}
 use Rattle.inp_reader.proofs.asker.Asker.query.Goals as goal
 
 pub returns-then-not-is_accepted-clause-says : goal.returns-then-not-is_accepted-clause-says

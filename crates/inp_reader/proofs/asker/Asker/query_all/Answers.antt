@@ -1,7 +1,7 @@
 use Rattle.std.proofs.Common.{sym, ◌∙◌, ◌++◌}
 use Rattle.inp_model.specs.declared.step.Step.TheVariants.{SyncSlots}
 use Rattle.inp_reader.specs.Reader.{queries, bit_queries, axis_queries, plain_axes, slot_queries}
-use Rattle.inp_reader.proofs.SaysInTurn.{says-stop-if, says-go-on, says-only_if}
+use Rattle.inp_reader.proofs.TalksInTurn.{says-stop-if, says-go-on, says-only_if}
 use Rattle.inp_reader.proofs.asker.Asker.query_all.Goals as goal
 
 -- stopped at keys, LEDs or switches, it asks for no axis and no slot

@@ -2,7 +2,7 @@ use Rattle.std.proofs.Common.{arith, sym, ◌∙◌, ap, ◌++◌, ◌+◌, ◌-
 use Rattle.inp_model.specs.declared.step.Step.TheVariants.{GetAxis}
 use Rattle.inp_reader.specs.Reader.{axis_queries, axes_among, only_if}
 use Rattle.inp_reader.proofs.Axes.{axis_queries-next, axis_queries-behind, axis_queries-none}
-use Rattle.inp_reader.proofs.SaysInTurn.{says-none, says-stop-if, says-same, says-asked, says-each}
+use Rattle.inp_reader.proofs.TalksInTurn.{says-none, says-stop-if, says-same, says-asked, says-each}
 use Rattle.inp_reader.proofs.asker.Asker.query_axes.Goals as goal
 
 -- before the first code nothing was asked for

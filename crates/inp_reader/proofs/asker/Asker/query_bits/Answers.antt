@@ -3,7 +3,7 @@ use Rattle.inp_model.specs.declared.event.TheConstants.{EV_KEY, EV_LED, EV_SW}
 use Rattle.inp_model.specs.declared.step.Step.TheVariants.{GetKeys, GetLeds, GetSwitches}
 use Rattle.inp_model.specs.Description.{has_kind}
 use Rattle.inp_reader.specs.Reader.{only_if}
-use Rattle.inp_reader.proofs.SaysInTurn.{says-stop-if, says-go-on, says-only_if}
+use Rattle.inp_reader.proofs.TalksInTurn.{says-stop-if, says-go-on, says-only_if}
 use Rattle.inp_reader.proofs.asker.Asker.query_bits.Goals as goal
 
 -- stopped at the keys, it does not ask for LEDs and switches

@@ -1,4 +1,4 @@
-use Rattle.inp_reader.proofs.SaysInTurn.{says-unwanted}
+use Rattle.inp_reader.proofs.TalksInTurn.{says-unwanted}
 use Rattle.inp_reader.proofs.asker.Asker.query_if.Goals as goal
 
 pub returns-else-wanted-clause-says : goal.returns-else-wanted-clause-says

@@ -2,7 +2,7 @@ use Rattle.std.proofs.Common.{rules, ◌≡◌, true, false}
 use Rattle.std.specs.Prelude.{is_some}
 use Rattle.inp_reader.specs.Reader.{axis_queries, axes_among}
 use Rattle.inp_reader.proofs.Axes.{plain_axes-parts}
-use Rattle.inp_reader.proofs.SaysInTurn.{says-stop-if, says-go-on, says-same}
+use Rattle.inp_reader.proofs.TalksInTurn.{says-stop-if, says-go-on, says-same}
 use Rattle.inp_reader.proofs.asker.Asker.query_plain_axes.Goals as goal
 
 -- stopped at an axis below those of slots, it does not ask for those above them

@@ -4,7 +4,7 @@ use Rattle.inp_reader.specs.declared.started.Started.TheVariants.{Opened as Star
 use Rattle.std.specs.Prelude.{Ok, Err}
 use Rattle.inp_reader.specs.Reader.{queries}
 use Rattle.inp_reader.specs.Session.{reading_of}
-use Rattle.inp_reader.proofs.SaysSessions.{says-view, says-begun}
+use Rattle.inp_reader.proofs.TalksOfSessions.{says-view, says-begun}
 use Rattle.inp_reader.proofs.session.Session.begin.Goals as goal
 
 -- a query was refused: the view stays, and the next call synchronises

@@ -1,6 +1,6 @@
 use Rattle.inp_reader.specs.Session.{reading_of}
 use Rattle.inp_reader.proofs.NextWalk.{handing-made}
-use Rattle.inp_reader.proofs.SaysSessions.{says-still}
+use Rattle.inp_reader.proofs.TalksOfSessions.{says-still}
 use Rattle.inp_reader.proofs.session.Session.go_on.Goals as goal
 
 pub returns-in-Sync-clause-says : goal.returns-in-Sync-clause-says

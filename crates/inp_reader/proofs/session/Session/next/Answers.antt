@@ -1,7 +1,7 @@
 use Rattle.std.proofs.Common.{refl}
 use Rattle.inp_reader.specs.Session.{reading_of}
 use Rattle.inp_reader.proofs.NextWalk.{plain-synced}
-use Rattle.inp_reader.proofs.SaysSessions.{says-still}
+use Rattle.inp_reader.proofs.TalksOfSessions.{says-still}
 use Rattle.inp_reader.proofs.session.Session.next.Goals as goal
 
 pub returns-in-Plain-Sync-clause-says : goal.returns-in-Plain-Sync-clause-says

@@ -3,7 +3,7 @@ use Rattle.inp_reader.specs.Talk.{finish}
 use Rattle.std.specs.Prelude.{Ok, Err}
 use Rattle.inp_reader.specs.Session.{reading_of}
 use Rattle.inp_reader.proofs.NextWalk.{synced-handing}
-use Rattle.inp_reader.proofs.SaysSessions.{says-synchronised, says-still}
+use Rattle.inp_reader.proofs.TalksOfSessions.{says-synchronised, says-still}
 use Rattle.inp_reader.proofs.session.Session.next_after_loss.Goals as goal
 
 -- a synchronisation that was stopped ends the call with that reply

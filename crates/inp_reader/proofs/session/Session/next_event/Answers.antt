@@ -1,7 +1,7 @@
 use Rattle.std.proofs.Common.{sym, ◌∙◌}
 use Rattle.inp_reader.specs.Session.{reading_of}
 use Rattle.inp_reader.proofs.ReadCounts.{some-queued}
-use Rattle.inp_reader.proofs.SaysSessions.{says-queued, says-took, says-read_nothing}
+use Rattle.inp_reader.proofs.TalksOfSessions.{says-queued, says-took, says-read_nothing}
 use Rattle.inp_reader.proofs.session.Session.next_event.Goals as goal
 
 pub returns-then-not-is_empty-clause-says : goal.returns-then-not-is_empty-clause-says

@@ -1,6 +1,6 @@
 use Rattle.std.proofs.Common.{arith}
 use Rattle.inp_reader.specs.Session.{reading_of}
-use Rattle.inp_reader.proofs.SaysSessions.{says-opened, says-not_opened}
+use Rattle.inp_reader.proofs.TalksOfSessions.{says-opened, says-not_opened}
 use Rattle.inp_reader.proofs.session.Session.start.Goals as goal
 
 pub returns-in-Opened-clause-says : goal.returns-in-Opened-clause-says

@@ -1,7 +1,7 @@
 use Rattle.std.proofs.Common.{◌∷◌, sym, ◌∙◌, arith}
 use Rattle.inp_model.specs.declared.step.Step.TheVariants.{Discard}
 use Rattle.inp_reader.specs.Reader.{queries, sync_talk}
-use Rattle.inp_reader.proofs.SaysSessions.{says-view}
+use Rattle.inp_reader.proofs.TalksOfSessions.{says-view}
 use Rattle.inp_reader.specs.Session.{reading_of}
 use Rattle.inp_reader.specs.Spare.{IsSpare}
 use Rattle.inp_reader.proofs.Classes.{slots-of}

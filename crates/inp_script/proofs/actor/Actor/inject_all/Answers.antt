@@ -2,7 +2,7 @@ use Rattle.std.proofs.Common.{◌≡◌, ◌∙◌, ap, rules, true, false}
 use Rattle.std.specs.Prelude.{not, is_some}
 use Rattle.std.proofs.lemmas.Result.{on_ok_weaker}
 use Rattle.inp_model.proofs.Leaves.{left-none}
-use Rattle.inp_script.proofs.Common.{Reading, Begins, inject_talk, Job, Stick, job_with}
+use Rattle.inp_script.proofs.Common.{ReaderState, Begins, inject_talk, Job, Stick, job_with}
 use Rattle.inp_script.proofs.Common.{stick_of}
 use Rattle.inp_script.proofs.TalkCalls.{begins-none, begins-left}
 use Rattle.inp_script.proofs.Lines.{injects-nothing, injects-all, injects-begun, source-stick}
@@ -28,7 +28,7 @@ returns-then-is_none g c =
     let a = g.E.Evdev.told c.args.dev.now in
     let b = g.E.Evdev.told c.inject_stream.new.dev in
     let events = c.args.events.now in
-    let r : Reading = role_reading c.self.inside.state in
+    let r : ReaderState = role_reading c.self.inside.state in
     let stick : Stick = stick_of c.self.inside.state in
     let old : Job = job_with r stick c.self.inside.notes in
     let new : Job = job_with r stick c.inject_stream.new.notes in

@@ -2,9 +2,10 @@ use Rattle.std.proofs.Common.{◌≡◌, ℕ, List, map, ◌++◌, false}
 use Rattle.std.proofs.lemmas.Result.{IfOk-weaker}
 use Rattle.inp_reader.specs.Effort.{is_idle}
 use Rattle.inp_script.specs.Effort.{Shrinks}
-use Rattle.inp_script.proofs.Common.{Description, EvdevView, CallMade, Reading, next_talk, mode_of, turn_of}
+use Rattle.inp_script.proofs.Common.{Description, EvdevView, CallMade, ReaderState, next_talk, mode_of}
+use Rattle.inp_script.proofs.Common.{turn_of}
 use Rattle.inp_script.proofs.Common.{job_of, made_sight, effort, total_effort}
-use Rattle.inp_reader.specs.Says.{Says}
+use Rattle.inp_reader.specs.FollowsTalk.{FollowsTalk}
 use Rattle.inp_script.specs.declared.role.client.Turn.{Turn}
 use Rattle.inp_script.proofs.Noted.{round-noted, round-begun}
 use Rattle.inp_script.proofs.Turns.{mode_of-busy, turn-shrinks}
@@ -14,13 +15,13 @@ pub returns-clause-turn : goal.returns-clause-turn
 returns-clause-turn g c =
     let a : EvdevView = g.E.Evdev.told c.args.dev.now in
     let b : EvdevView = g.E.Evdev.told c.next-next.new.dev in
-    let r : Reading = c.args.reader.now.reading in
-    let s : Reading = c.next-next.new.self.reading in
+    let r : ReaderState = c.args.reader.now.reading in
+    let s : ReaderState = c.next-next.new.self.reading in
     let d : Description = c.args.reader.now.description in
     let made : List CallMade = c.next-next.new.self.made in
     let mode : c.mode_of-mode.result ≡ mode_of c.args.skips r.phase =
     rw (c.mode_of-mode.ensures, c.phase.ensures.phase) in
-    let says : Says a b _ made (next_talk d (mode_of c.args.skips r.phase) r) (c.next-next.result, s) =
+    let says : FollowsTalk a b _ made (next_talk d (mode_of c.args.skips r.phase) r) (c.next-next.result, s) =
     rw mode at c.next-next.ensures.says in
     let seen : c.push_made.new.self
     ≡ record c.args.notes.now { sight = c.args.notes.now.sight ++ map made_sight made } =
@@ -34,8 +35,8 @@ returns-clause-turn g c =
 
 pub returns-clause-shrinks : goal.returns-clause-shrinks
 returns-clause-shrinks g c =
-    let r : Reading = c.args.reader.now.reading in
-    let s : Reading = c.next-next.new.self.reading in
+    let r : ReaderState = c.args.reader.now.reading in
+    let s : ReaderState = c.next-next.new.self.reading in
     let before : ℕ = effort (g.E.Evdev.told c.args.dev.now) r in
     let after : ℕ = effort (g.E.Evdev.told c.next-next.new.dev) s in
     let mode : c.mode_of-mode.result ≡ mode_of c.args.skips r.phase =

@@ -1,7 +1,7 @@
 use Rattle.std.proofs.Common.{◌≡◌, ◌∙◌, sym, take, drop, length}
 use Rattle.std.proofs.lemmas.List.{take_at}
 use Rattle.std.proofs.lemmas.Result.{on_ok_weaker}
-use Rattle.inp_script.proofs.Common.{Reading, job_of, count_taken}
+use Rattle.inp_script.proofs.Common.{ReaderState, job_of, count_taken}
 use Rattle.inp_script.specs.Tap.{tap_reading}
 use Rattle.inp_script.proofs.TapCalls.{tap-noted, tap-begun}
 use Rattle.inp_script.proofs.role.tap.Tap.call.Goals as goal
@@ -11,8 +11,9 @@ pub returns-clause-done : goal.returns-clause-done
 returns-clause-done g c =
     let out = c.make-reply.new.out in
     let reply = c.make-reply.result in
-    let r : Reading = tap_reading c.args.self.now in
-    let s : Reading = record r { client = c.tap_client_after-self.result; view = c.make-reply.new.view } in
+    let r : ReaderState = tap_reading c.args.self.now in
+    let s : ReaderState = record r { client = c.tap_client_after-self.result; view = c.make-reply.new.view }
+    in
     let whole : c.deref.result.now ≡ out =
     c.deref.ensures.value
     ∙ take_at out (drop (length out) c.args.self.now.buffer.items) c.args.self.now.buffer.len

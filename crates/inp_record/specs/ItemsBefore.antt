@@ -16,8 +16,8 @@ use Rattle.inp_record.specs.declared.context.Given.{Given}
 use Rattle.inp_record.specs.declared.context.TheConstants.{DEVICES_MAX, SOURCES_MAX, READERS_MAX, OWNERS_MAX, STREAMS_MAX}
 
 -- the meanings of the lines before a line, the newest first
-abbrev pub Past : Type 0
-Past = List item.Item
+abbrev pub ItemsBefore : Type 0
+ItemsBefore = List item.Item
 
 -- a device with this name, if there is one, after those before it
 abbrev pub with_latest : List DeviceText → Option (List ℕ) → Bool → Description → List DeviceText
@@ -103,7 +103,7 @@ after (Action actor command) c = record c {
 }
 
 -- what the line after these depends on
-abbrev pub context_of : Past → Context
+abbrev pub context_of : ItemsBefore → Context
 context_of [] = first_context
 context_of (item ∷ past) = after item (context_of past)
 

@@ -19,7 +19,7 @@ calls_kept (call ∷ calls) = kept_call call.step call.answer.reply ++ calls_kep
 
 -- The calls that were made on an evdev are those of the talk, this is its result, and they are kept after
 -- those that were kept before.
-pub record Says {A : Type 0} (before after : EvdevView) (old new : List CallMade) (talk : Talk A) (result : A) : Type 0 where
+pub record FollowsTalk {A : Type 0} (before after : EvdevView) (old new : List CallMade) (talk : Talk A) (result : A) : Type 0 where
   pub calls : List Call
   pub talk_ends : EndsWith talk calls result
   pub are_calls : AreCalls before after calls

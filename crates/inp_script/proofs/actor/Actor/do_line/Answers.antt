@@ -8,7 +8,7 @@ use Rattle.inp_script.specs.RoleState.{role_of, role_description, job_in, owning
 use Rattle.inp_script.proofs.ActorLines.{caller-of, owns-done, owns-begun, calls-done, calls-begun}
 use Rattle.inp_script.proofs.ActorLines.{still-actor}
 use Rattle.inp_script.proofs.LinesDone.{command-of}
-use Rattle.inp_script.proofs.actor.Actor.act.Goals as goal
+use Rattle.inp_script.proofs.actor.Actor.do_line.Goals as goal
 
 -- A line of an owner
 
