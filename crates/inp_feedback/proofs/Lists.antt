@@ -9,7 +9,7 @@ use Rattle.inp_feedback.specs.declared.u_entry.UEntry.{UEntry}
 use Rattle.inp_feedback.specs.declared.u_entry.UEntry.TheVariants.{Made, Feedback}
 use Rattle.inp_feedback.specs.declared.feedback_call.FeedbackCall.{FeedbackCall}
 use Rattle.inp_feedback.specs.UEntry.{step_made, is_feedback, steps_in, feedback_count}
-use Rattle.inp_feedback.specs.Kept.{kept_of, StandsWithin}
+use Rattle.inp_feedback.specs.KeptList.{kept_of, StandsWithin}
 
 -- one item more, in the other order
 pub reverse-cons : {X : Type 0} (xs : List X) (x : X) → reverse (x ∷ xs) ≡ reverse xs ++ x ∷ []

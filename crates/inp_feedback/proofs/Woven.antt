@@ -5,7 +5,7 @@ use Rattle.inp_feedback.specs.declared.u_entry.UEntry.{UEntry}
 use Rattle.inp_feedback.specs.declared.u_entry.UEntry.TheVariants.{Made, Feedback}
 use Rattle.inp_feedback.specs.declared.feedback_call.FeedbackCall.{FeedbackCall}
 use Rattle.inp_feedback.specs.UEntry.{steps_in}
-use Rattle.inp_feedback.specs.Kept.{kept_of, StandsWithin, calls_in, feedback_numbers, call_numbers}
+use Rattle.inp_feedback.specs.KeptList.{kept_of, StandsWithin, calls_in, feedback_numbers, call_numbers}
 use Rattle.inp_feedback.proofs.Lists.{kept_of-nothing, kept_of-made, kept_of-fed, within-more}
 
 -- The kept list of its own steps and calls

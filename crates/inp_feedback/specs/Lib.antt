@@ -1,7 +1,7 @@
 pub mod UEntry
 pub mod Sent
 pub mod Feedback
-pub mod Kept
+pub mod KeptList
 pub mod Feeds
 pub mod Laws
 pub mod Examples

@@ -8,7 +8,7 @@
 //! owner's feedback calls ([`UEntry::Feedback`], `specs/UEntry.antt`). What waits for the owner is what
 //! `specs/Feedback.antt` says of the kept list: the last 15 at most ([`FEEDBACK_MAX`]) of the events that were sent and
 //! not taken yet. A feedback call takes the first of these, as many as it has room for, and answers [`Fed::Took`].
-//! [`Fed::Full`] comes exactly where as many calls are kept as the log limit says (`fed`). `specs/Kept.antt` makes a
+//! [`Fed::Full`] comes exactly where as many calls are kept as the log limit says (`fed`). `specs/KeptList.antt` makes a
 //! kept list of the steps and of the calls apart, and has the calls of a kept list, and their numbers.
 //!
 //! For the crates above it is proved that a kept list is that of its own steps and calls (`proofs/Woven.antt`). No more

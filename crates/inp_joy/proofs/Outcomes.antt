@@ -18,7 +18,7 @@ use Rattle.inp_joy.specs.declared.turn_end.TurnEnd.TheVariants.{Hands, Stops, Go
 use Rattle.inp_joy.specs.Joy.{JoystickState, JoyTurn, gives, goes_on, hand_out_record, joy_read_of}
 use Rattle.inp_joy.specs.Joy.{joy_record_of}
 use Rattle.inp_joy.specs.Joy.{record_or_on, joying_after_next}
-use Rattle.inp_joy.specs.Kept.{turn_of_end, TurnEndShows, TurnEndPictures, IsTurnEndLess}
+use Rattle.inp_joy.specs.JoyState.{turn_of_end, TurnEndShows, TurnEndPictures, IsTurnEndLess}
 use Rattle.inp_joy.specs.Picture.{picture_of_view}
 use Rattle.inp_joy.specs.Reads.{PicturesTheDevice, IsReadLess}
 use Rattle.inp_joy.proofs.Pictures.{device-pictured}

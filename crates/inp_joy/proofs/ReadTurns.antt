@@ -18,8 +18,8 @@ use Rattle.inp_joy.specs.declared.turn_end.TurnEnd.TheVariants.{Hands, Stops, Go
 use Rattle.inp_joy.specs.Joy.{JoystickState, JoyAnswer, JoyTurn, goes_on, is_startup_over, turn_talk}
 use Rattle.inp_joy.specs.Joy.{with_count}
 use Rattle.inp_joy.specs.Joy.{after_turn, turns}
-use Rattle.inp_joy.specs.Kept.{answer_of_turn, turn_of_end, is_end, IsTurnEndLess, agains_after_turn}
-use Rattle.inp_joy.specs.Kept.{HasTurned}
+use Rattle.inp_joy.specs.JoyState.{answer_of_turn, turn_of_end, is_end, IsTurnEndLess, agains_after_turn}
+use Rattle.inp_joy.specs.JoyState.{HasTurned}
 use Rattle.inp_joy.proofs.TurnEnds.{turn-accepted}
 use Rattle.inp_model.specs.declared.step.Step.{Step}
 use Rattle.inp_model.specs.declared.reply.Reply.{Reply}

@@ -12,7 +12,7 @@ use Rattle.inp_reader.specs.TrueView.{AnswerShows}
 use Rattle.inp_reader.specs.ReaderPlace.{Stands, IsAlone}
 use Rattle.inp_reader.proofs.Calls.{alone-first, alone-then, leaves_made-none, leaves_made-then}
 use Rattle.inp_reader.proofs.StandsByCalls.{client-next}
-use Rattle.inp_joy.specs.Kept.{ReaderCalls}
+use Rattle.inp_joy.specs.JoyState.{ReaderCalls}
 
 -- one `next`
 pub calls-next : (before after : EvdevView) (old new : List CallMade) (mode : Mode) (r s : ReaderView)

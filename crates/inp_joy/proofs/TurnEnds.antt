@@ -34,7 +34,7 @@ use Rattle.inp_joy.specs.Joy.{with_reading, with_startup, without_startup, next_
 use Rattle.inp_joy.specs.Joy.{joying_after_start, startup, joy_read_of, joy_record_of, record_or_on}
 use Rattle.inp_joy.specs.Joy.{joying_after_event, stop_or_on, joying_after_next, joying_after_sync}
 use Rattle.inp_joy.specs.Joy.{record_or_turn, turn_talk}
-use Rattle.inp_joy.specs.Kept.{turn_of_end, IsJoyState, IsJoy, kept_joying}
+use Rattle.inp_joy.specs.JoyState.{turn_of_end, IsJoyState, IsJoy, kept_joying}
 use Rattle.inp_joy.specs.Picture.{picture_after_if, picture_of_view, seen_as, blank_picture}
 use Rattle.inp_joy.specs.Reads.{IsPictured}
 use Rattle.inp_joy.proofs.Events.{event-pictured, report-none}

@@ -3,6 +3,6 @@ pub mod Codes
 pub mod Picture
 pub mod Joy
 pub mod Reads
-pub mod Kept
+pub mod JoyState
 pub mod Laws
 pub mod Examples

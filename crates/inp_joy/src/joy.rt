@@ -42,7 +42,7 @@ impl Model for Joy {
 
     ghost Value = { JoyView };
 
-    ghost use Rattle.inp_joy.specs.Kept.{joy_view, IsJoy};
+    ghost use Rattle.inp_joy.specs.JoyState.{joy_view, IsJoy};
 
     ghost view = { joy_view };
 

@@ -9,7 +9,7 @@ ghost use Rattle.inp_reader.specs.TrueView.{AnswerShows};
 ghost use Rattle.inp_reader.specs.ReaderPlace.{IsAlone, is_needed, has_opened};
 ghost use Rattle.inp_joy.specs.Codes.{number_among, startup_len};
 ghost use Rattle.inp_joy.specs.Joy.{startup, startup_buttons, startup_axes, with_startup, without_startup, is_startup_over, is_long, hand_out_record, joy_record_of, record_of_key, record_of_axis, last_value, joying_after_event, joying_after_next, joying_after_start, sync_turn, event_turn, next_in_startup, record_or_turn, turn_talk, joy_start, gives};
-ghost use Rattle.inp_joy.specs.Kept.{kept_joying, IsJoyState, answer_of_turn, turn_of_end, is_end, IsTurnEndLess, agains_after_turn, ReaderCalls, TurnEndShows, TurnEndPictures, HasTurned, StateStands};
+ghost use Rattle.inp_joy.specs.JoyState.{kept_joying, IsJoyState, answer_of_turn, turn_of_end, is_end, IsTurnEndLess, agains_after_turn, ReaderCalls, TurnEndShows, TurnEndPictures, HasTurned, StateStands};
 ghost use Rattle.inp_joy.specs.Picture.{seen_as};
 ghost use Rattle.inp_joy.specs.Reads.{IsPictured, IsJoyRead, IsReadLess, ReadPictures, agains_after_read};
 

@@ -9,7 +9,7 @@ use Rattle.std.proofs.lemmas.List.FromFn.{length-enumerate_from}
 use Rattle.std.proofs.lemmas.Option.{slice_get-map, slice_get_within, get_or_from_slice_get}
 use Rattle.inp_script.proofs.Common.{steps_in, ActorText, DeviceText, RecordView, IsRecord, HasActor}
 use Rattle.inp_script.proofs.Common.{ActorView, first_job}
-use Rattle.inp_feedback.specs.Kept.{calls_in}
+use Rattle.inp_feedback.specs.KeptList.{calls_in}
 use Rattle.inp_runs.proofs.Lists.{slice_get-numbered, there-is}
 use Rattle.inp_script.specs.Owner.{first_owning}
 use Rattle.inp_runs.specs.Play.{description_at, first_actor, first_stage}

@@ -16,7 +16,7 @@ use Rattle.inp_feedback.specs.declared.u_entry.UEntry.TheVariants.{Feedback}
 use Rattle.inp_feedback.specs.declared.feedback_call.FeedbackCall.{FeedbackCall}
 use Rattle.inp_feedback.specs.declared.fed.Fed.TheVariants.{Took, Full}
 use Rattle.inp_feedback.specs.Feedback.{is_full_of_feedback, taken_by_feedback, fed, kept_after_feedback}
-use Rattle.inp_feedback.specs.Kept.{calls_in}
+use Rattle.inp_feedback.specs.KeptList.{calls_in}
 use Rattle.inp_feedback.proofs.Few.{room-enough, room-enough-taken, room-enough-kept}
 use Rattle.inp_feedback.proofs.Woven.{kept-woven}
 use Rattle.inp_uinput.specs.UdevView.{UdevView, device_of, owned_view}

@@ -6,7 +6,7 @@ use Rattle.inp_actors.specs.declared.device_text.DeviceText.{DeviceText}
 use Rattle.inp_actors.specs.Record.{RecordView}
 use Rattle.inp_feedback.specs.declared.feedback_call.FeedbackCall.{FeedbackCall}
 use Rattle.inp_feedback.specs.UEntry.{steps_in}
-use Rattle.inp_feedback.specs.Kept.{calls_in}
+use Rattle.inp_feedback.specs.KeptList.{calls_in}
 use Rattle.inp_uinput.specs.UdevView.{UdevView}
 use Rattle.inp_script.specs.DoneLine.{HasActor}
 use Rattle.inp_script.specs.Job.{ActorView}

@@ -6,7 +6,7 @@ ghost use Rattle.inp_runs.specs.Play.{first_stage, runs_of};
 ghost use Rattle.inp_play.specs.Player.{stage_of, first_device, first_actors, HasActors, IsPlayer, DoesOn};
 
 use crate::gathered_runs::{histories, push_end};
-use crate::run::{RUN_MAX, gather};
+use crate::run::{RUN_MAX, gather_front};
 use inp_actors::Record;
 use inp_model::{NoMemory, Stamped};
 use inp_runs::NO_STAMPED;
@@ -48,7 +48,7 @@ impl Player {
         let lines = rec.lines();
         let text = lines.get(line as usize);
         let lines = &lines.as_slice()[line as usize..];
-        let count = gather(lines, text.actor, &mut self.events);
+        let count = gather_front(lines, text.actor, &mut self.events);
         let device = rec.actors().get(text.actor as usize).device;
         let dev = &mut self.devices[device as usize];
         let actor = &mut self.actors[text.actor as usize];

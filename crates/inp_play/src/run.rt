@@ -11,7 +11,7 @@ pub(crate) const RUN_MAX: usize = 64;
 
 // Gathers the events of the first lines, up to the first line that is another actor's or does something else. Says how
 // many they are: no more than there is room for.
-pub(crate) fn gather(lines: &[Line], actor: u32, events: &mut [Stamped]) -> usize
+pub(crate) fn gather_front(lines: &[Line], actor: u32, events: &mut [Stamped]) -> usize
     ensures fits { result ≤ length events.new }
     ensures within { result ≤ length lines.now }
     ensures gathered { take result lines.now

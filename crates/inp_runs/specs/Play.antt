@@ -13,7 +13,7 @@ use Rattle.inp_feedback.specs.declared.feedback_call.FeedbackCall.{FeedbackCall}
 use Rattle.inp_feedback.specs.declared.fed.Fed.{Fed}
 use Rattle.inp_feedback.specs.declared.fed.Fed.TheVariants.{Took, Full}
 use Rattle.inp_feedback.specs.Feedback.{taken_by_feedback, fed}
-use Rattle.inp_feedback.specs.Kept.{kept_of}
+use Rattle.inp_feedback.specs.KeptList.{kept_of}
 use Rattle.inp_script.specs.declared.run.DeviceEnds.{DeviceEnds}
 use Rattle.inp_script.specs.declared.run.Played.{Played}
 use Rattle.inp_script.specs.declared.stop.Stop.{Stop}

@@ -6,7 +6,7 @@ ghost use Rattle.inp_script.specs.DoneLine.{HasActor, IsWaiting};
 ghost use Rattle.inp_runs.specs.DoingAll.{ActsAll, ActsSome, AreNumbersOf, EndsLines};
 ghost use Rattle.inp_runs.specs.Job.{lines_by};
 
-use crate::event_lines::{NO_STAMPED, gather};
+use crate::event_lines::{NO_STAMPED, gather_adjacent};
 use inp_actors::{Record, Role};
 use inp_feedback::{FEEDBACK_MAX, Feeds};
 use inp_model::{Evdev, NoMemory};
@@ -91,7 +91,7 @@ fn do_some<D: Evdev + Feeds>(
     ensures left { IsActedOn D.told D.feeds actor.old.role dev.old dev.new }
 {
     let mut events = [NO_STAMPED; LINES_MAX];
-    let count = gather(rec, &lines[from..], number, &mut events);
+    let count = gather_adjacent(rec, &lines[from..], number, &mut events);
     if count < 2 {
         actor.do_line(dev, rec, lines[from], wait)?;
         return Ok(1);

@@ -5,7 +5,7 @@ pub mod SightRef
 pub mod Sights
 pub mod Owner
 pub mod Job
-pub mod Kept
+pub mod JobEnd
 pub mod Line
 pub mod Client
 pub mod DoneLine

@@ -3,7 +3,7 @@ ghost use Rattle.std.specs.Prelude.{◌≤◌, ◌<◌, length, IfOk};
 ghost use Rattle.inp_threads.specs.Lines.{AreLinesDealt};
 ghost use Rattle.inp_threads.specs.Promise.{IsPromisedOf};
 
-use crate::gathered::{Gathered, gather};
+use crate::gathered::{Gathered, join_workers};
 use crate::lines::LineLists;
 use crate::workers::{deal, run_all};
 use inp_actors::Record;
@@ -41,7 +41,7 @@ pub(crate) fn run_device<R: Threads + Wait + Sync, G: Gate>(
         pass,
         ends,
         is_done,
-    } = gather(&port, pass, workers, ends);
+    } = join_workers(&port, pass, workers, ends);
     let history = port.close(pass).into_history();
     if !is_done {
         return Err(NoMemory);

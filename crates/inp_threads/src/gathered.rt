@@ -20,7 +20,7 @@ pub(crate) struct Gathered {
 }
 
 // Joins the passes of all workers, and finishes their actors. There is room for their results, so it takes no memory.
-pub(crate) fn gather(
+pub(crate) fn join_workers(
     port: &UPort,
     pass: Pass<Udev>,
     workers: Vec<Worker>,

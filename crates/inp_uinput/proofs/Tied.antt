@@ -16,7 +16,7 @@ use Rattle.inp_model.proofs.Leaves.{tie-kept}
 use Rattle.inp_feedback.specs.declared.u_entry.UEntry.{UEntry}
 use Rattle.inp_feedback.specs.declared.u_entry.UEntry.TheVariants.{Made}
 use Rattle.inp_feedback.specs.UEntry.{kept_after_step, kept_after_events}
-use Rattle.inp_feedback.specs.Kept.{calls_in, feedback_numbers, call_numbers}
+use Rattle.inp_feedback.specs.KeptList.{calls_in, feedback_numbers, call_numbers}
 use Rattle.inp_feedback.proofs.Woven.{numbers-apart}
 use Rattle.inp_uinput.specs.UdevView.{UdevView, device_of, owned_view}
 

@@ -25,7 +25,7 @@ use Rattle.inp_feedback.specs.Sent.{sent_at_step}
 use Rattle.inp_uinput.specs.UdevView.{UdevView}
 use Rattle.inp_feedback.specs.Feedback.{feedback_queue, is_full_of_feedback, taken_by_feedback, fed}
 use Rattle.inp_feedback.specs.Feedback.{kept_after_feedback}
-use Rattle.inp_feedback.specs.Kept.{kept_of, StandsWithin}
+use Rattle.inp_feedback.specs.KeptList.{kept_of, StandsWithin}
 use Rattle.inp_uinput.specs.KeptBeside.{with_sent, IsKeptBeside}
 use Rattle.inp_feedback.proofs.Lists.{steps_in-kept_of, feedback_count-kept_of, kept_of-nothing, kept_of-made}
 use Rattle.inp_feedback.proofs.Lists.{kept_of-fed, within-more, reverse-cons}

@@ -7,7 +7,7 @@ use Rattle.inp_model.specs.Description.{Description}
 use Rattle.inp_feedback.specs.declared.feedback_call.FeedbackCall.{FeedbackCall}
 use Rattle.inp_feedback.specs.declared.fed.TheConstants.{FEEDBACK_MAX}
 use Rattle.inp_feedback.specs.Feedback.{feedback_queue}
-use Rattle.inp_feedback.specs.Kept.{kept_of, StandsWithin}
+use Rattle.inp_feedback.specs.KeptList.{kept_of, StandsWithin}
 
 -- a ring with an event that was sent, if one was: after the others, of which the last ones stay that fit
 abbrev pub with_sent : Option Event → Buffer Event → Buffer Event

@@ -5,7 +5,7 @@ use Rattle.inp_model.specs.DeviceView.{DeviceView, evdev_view}
 use Rattle.inp_model.specs.Evdev.{EvdevView}
 use Rattle.inp_feedback.specs.declared.u_entry.UEntry.{UEntry}
 use Rattle.inp_feedback.specs.UEntry.{steps_in}
-use Rattle.inp_feedback.specs.Kept.{call_numbers}
+use Rattle.inp_feedback.specs.KeptList.{call_numbers}
 
 -- its description, which never changes, what it keeps, newest first, and how many calls were answered Again
 pub record UdevView : Type 0 where

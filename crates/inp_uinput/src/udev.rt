@@ -47,7 +47,7 @@ impl Model for Udev {
     ghost Value = { UdevView };
 
     ghost use Rattle.std.specs.Prelude.{reverse, vec_capacity};
-    ghost use Rattle.inp_feedback.specs.Kept.{kept_of};
+    ghost use Rattle.inp_feedback.specs.KeptList.{kept_of};
     ghost use Rattle.inp_uinput.specs.KeptBeside.{IsKeptBeside};
 
     ghost view = { λ u. record {

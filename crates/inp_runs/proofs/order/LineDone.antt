@@ -11,7 +11,7 @@ use Rattle.std.specs.Prelude.{slice_get}
 use Rattle.inp_feedback.specs.declared.feedback_call.FeedbackCall.{FeedbackCall}
 use Rattle.inp_feedback.specs.declared.u_entry.UEntry.{UEntry}
 use Rattle.inp_feedback.specs.Feedback.{fed}
-use Rattle.inp_feedback.specs.Kept.{kept_of}
+use Rattle.inp_feedback.specs.KeptList.{kept_of}
 use Rattle.inp_reader.specs.Talk.{LeadsTo, talk_with, calls_with}
 use Rattle.inp_script.specs.DoneLine.{line_talk}
 use Rattle.inp_runs.specs.Play.{after_line, after_talk, unless_owner_stopped, by_command, after_line_of}

@@ -10,7 +10,7 @@ use Rattle.inp_runs.proofs.Common.{OwnerState}
 use Rattle.inp_runs.proofs.Common.{lines_by, rooms_of, Stage, description_at, cond_both}
 use Rattle.std.specs.Prelude.{slice_get}
 use Rattle.inp_feedback.specs.declared.feedback_call.FeedbackCall.{FeedbackCall}
-use Rattle.inp_feedback.specs.Kept.{kept_of, StandsWithin}
+use Rattle.inp_feedback.specs.KeptList.{kept_of, StandsWithin}
 use Rattle.inp_runs.proofs.LinesWalk.{lines_by-more, lines_by-other}
 use Rattle.inp_runs.proofs.Lists.{IsSetAt, eq_true, eq_false, slice_get-set, slice_get-set_same}
 use Rattle.inp_runs.proofs.order.Calls.{AreExact}

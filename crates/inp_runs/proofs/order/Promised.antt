@@ -13,7 +13,7 @@ use Rattle.inp_runs.proofs.Common.{lines_by, rooms_of, Stage, description_at}
 use Rattle.std.specs.Prelude.{slice_get, IfOk}
 use Rattle.std.proofs.lemmas.List.FromFn.{length-enumerate_from}
 use Rattle.inp_actors.specs.declared.device_text.DeviceText.{DeviceText}
-use Rattle.inp_feedback.specs.Kept.{kept_of}
+use Rattle.inp_feedback.specs.KeptList.{kept_of}
 use Rattle.inp_feedback.proofs.Lists.{steps_in-kept_of, kept_of-nothing}
 use Rattle.inp_reader.specs.Talk.{LeadsTo}
 use Rattle.inp_script.specs.declared.run.DeviceEnds.{DeviceEnds}

@@ -13,7 +13,7 @@ use Rattle.inp_feedback.proofs.Lists.{reverse-cons, steps_in-kept_of, kept_of-fe
 use Rattle.inp_script.specs.declared.stop.Stop.TheVariants.{Full as FullList}
 use Rattle.inp_runs.specs.Owner.{HasFed, EndsFed}
 use Rattle.inp_feedback.specs.declared.feedback_call.FeedbackCall.{FeedbackCall}
-use Rattle.inp_feedback.specs.Kept.{kept_of, StandsWithin}
+use Rattle.inp_feedback.specs.KeptList.{kept_of, StandsWithin}
 use Rattle.inp_feedback.proofs.Woven.{kept-longer}
 use Rattle.inp_runs.specs.Play.{feedback_calls_after}
 

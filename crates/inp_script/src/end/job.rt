@@ -21,7 +21,7 @@ impl Model for JobEnd {
 
     ghost Value = { JobView };
 
-    ghost use Rattle.inp_script.specs.Kept.{job_view};
+    ghost use Rattle.inp_script.specs.JobEnd.{job_view};
 
     ghost view = { job_view };
 }

@@ -22,7 +22,7 @@ impl Model for JoyEnd {
 
     ghost Value = { JoyJobView };
 
-    ghost use Rattle.inp_script.specs.Kept.{joy_job_view};
+    ghost use Rattle.inp_script.specs.JobEnd.{joy_job_view};
 
     ghost view = { joy_job_view };
 }

@@ -19,7 +19,7 @@ impl Model for OwnerEnd {
 
     ghost Value = { OwnerView };
 
-    ghost use Rattle.inp_script.specs.Kept.{owner_view};
+    ghost use Rattle.inp_script.specs.JobEnd.{owner_view};
 
     ghost view = { owner_view };
 }

@@ -9,8 +9,8 @@ use Rattle.inp_runs.proofs.DoingAll.{acted-line, acted_on-begun, own-line}
 use Rattle.inp_runs.proofs.EventLines.{events-in_time, events-source, own-events, own-within, whole}
 use Rattle.inp_runs.proofs.actor_lines.do_some.Goals as goal
 
-pub gather-count-requires : goal.gather-count-requires
-gather-count-requires g c = record {
+pub gather_adjacent-count-requires : goal.gather_adjacent-count-requires
+gather_adjacent-count-requires g c = record {
   numbers =
       own-within c.args.rec.now c.args.number
       (length c.args.lines.now - c.args.from) c.args.from c.args.lines.now c.requires.lines;
@@ -62,24 +62,26 @@ is_source r number from count numbers a events h same keeps some fits are =
 -- the events were gathered from lines of the actor, and only a source has such lines
 pub inject_all-requires-clause-source : goal.inject_all-requires-clause-source
 inject_all-requires-clause-source g c =
-    is_source _ _ _ _ c.args.lines.now _ c.gather-count.new.events c.requires.actor c.requires.number
-    c.gather-count.ensures.«record» c.if-count-lt2.false c.gather-count.ensures.fits
-    c.gather-count.ensures.gathered
+    is_source _ _ _ _ c.args.lines.now _ c.gather_adjacent-count.new.events c.requires.actor c.requires.number
+    c.gather_adjacent-count.ensures.«record» c.if-count-lt2.false c.gather_adjacent-count.ensures.fits
+    c.gather_adjacent-count.ensures.gathered
 
 -- the events stand in a record, which keeps their moments within range
 pub inject_all-requires-clause-moments : goal.inject_all-requires-clause-moments
 inject_all-requires-clause-moments g c =
-    events-in_time c.args.rec.now c.args.number c.requires.actor.text _ _ c.gather-count.ensures.«record»
+    events-in_time c.args.rec.now c.args.number c.requires.actor.text _ _
+    c.gather_adjacent-count.ensures.«record»
     (text_at c.args.rec.now c.args.number c.args.actor.now c.requires.actor c.requires.number)
-    c.gather-count.ensures.gathered
+    c.gather_adjacent-count.ensures.gathered
 
 pub returns-in_err-inject_all-clause-left : goal.returns-in_err-inject_all-clause-left
 returns-in_err-inject_all-clause-left g c =
     inr (
       ap is_owner
-          (is_source _ _ _ _ c.args.lines.now _ c.gather-count.new.events c.requires.actor c.requires.number
-          c.gather-count.ensures.«record» c.if-count-lt2.false c.gather-count.ensures.fits
-          c.gather-count.ensures.gathered),
+          (is_source _ _ _ _ c.args.lines.now _ c.gather_adjacent-count.new.events c.requires.actor
+          c.requires.number
+          c.gather_adjacent-count.ensures.«record» c.if-count-lt2.false c.gather_adjacent-count.ensures.fits
+          c.gather_adjacent-count.ensures.gathered),
       c.inject_all.ensures.left,
     )
 
@@ -87,17 +89,19 @@ returns-in_err-inject_all-clause-left g c =
 pub returns-clause-done : goal.returns-clause-done
 returns-clause-done g c =
     let are =
-    are_events c.args.rec.now c.args.number c.args.from c.gather-count.result c.args.lines.now _
-    c.gather-count.ensures.gathered in
+    are_events c.args.rec.now c.args.number c.args.from c.gather_adjacent-count.result c.args.lines.now _
+    c.gather_adjacent-count.ensures.gathered in
     inr (record {
       source =
-          is_source _ _ _ _ c.args.lines.now _ c.gather-count.new.events c.requires.actor c.requires.number
-          c.gather-count.ensures.«record» c.if-count-lt2.false c.gather-count.ensures.fits
-          c.gather-count.ensures.gathered;
-      events = take c.gather-count.result c.gather-count.new.events;
+          is_source _ _ _ _ c.args.lines.now _ c.gather_adjacent-count.new.events c.requires.actor
+          c.requires.number
+          c.gather_adjacent-count.ensures.«record» c.if-count-lt2.false c.gather_adjacent-count.ensures.fits
+          c.gather_adjacent-count.ensures.gathered;
+      events = take c.gather_adjacent-count.result c.gather_adjacent-count.new.events;
       are_lines =
           rw (
-            own-events c.args.rec.now c.args.number c.args.from c.gather-count.result c.args.lines.now _
+            own-events c.args.rec.now c.args.number c.args.from c.gather_adjacent-count.result
+            c.args.lines.now _
                 c.requires.lines are,
             ← c.requires.number,
           );
@@ -110,8 +114,9 @@ pub returns-clause-left : goal.returns-clause-left
 returns-clause-left g c =
     inr (
       ap is_owner
-          (is_source _ _ _ _ c.args.lines.now _ c.gather-count.new.events c.requires.actor c.requires.number
-          c.gather-count.ensures.«record» c.if-count-lt2.false c.gather-count.ensures.fits
-          c.gather-count.ensures.gathered),
+          (is_source _ _ _ _ c.args.lines.now _ c.gather_adjacent-count.new.events c.requires.actor
+          c.requires.number
+          c.gather_adjacent-count.ensures.«record» c.if-count-lt2.false c.gather_adjacent-count.ensures.fits
+          c.gather_adjacent-count.ensures.gathered),
       c.inject_all.ensures.left,
     )

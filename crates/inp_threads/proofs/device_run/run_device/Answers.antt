@@ -10,8 +10,8 @@ use Rattle.inp_port.specs.Port.{description_of, start_value}
 use Rattle.inp_threads.proofs.DeviceRun.{IsLeftOf, left-promised}
 use Rattle.inp_threads.proofs.device_run.run_device.Goals as goal
 
-pub gather-pass-requires-clause-room : goal.gather-pass-requires-clause-room
-gather-pass-requires-clause-room g c =
+pub join_workers-pass-requires-clause-room : goal.join_workers-pass-requires-clause-room
+join_workers-pass-requires-clause-room g c =
     let kept : length c.run_all.new.workers.items ≡ length c.in_ok-workers.workers.items =
     sym (length-map c.run_all.new.workers.items actor_number) ∙ ap length c.run_all.ensures.numbers
     ∙ length-map c.in_ok-workers.workers.items actor_number in
@@ -41,7 +41,7 @@ returns g c = record {
       let described : description_of c.in-Ok.port ≡ device.caps =
       rw (c.in-Ok.ensures.description, c.in_ok-new.ensures.fresh) caps in
       let dealt = c.in_ok-workers.ensures.dealt in
-      let joined = view_of c.gather-pass.result.pass in
+      let joined = view_of c.join_workers-pass.result.pass in
       let own : IsEachAddedOnce [] joined.seen joined.own =
       rw none at
       (rw c.close.ensures.entries at c.close.ensures.own) in
@@ -53,9 +53,9 @@ returns g c = record {
         description = described;
         numbers = c.run_all.ensures.numbers ∙ dealt.numbers;
         worked = c.run_all.ensures.worked;
-        done = c.gather-pass.ensures.done c.if-not-is_done.false;
-        sized = c.gather-pass.ensures.sized;
-        are_joined = c.gather-pass.ensures.joined;
+        done = c.join_workers-pass.ensures.done c.if-not-is_done.false;
+        sized = c.join_workers-pass.ensures.sized;
+        are_joined = c.join_workers-pass.ensures.joined;
         none = dealt.own;
         seen = refl;
         owned = own;
@@ -64,5 +64,5 @@ returns g c = record {
       (left-promised c.args.idle c.args.number c.args.rec.now device c.in-Ok.port
       (view_of c.deal.new.pass) joined c.run_all.new.workers.items joined.seen left
       c.devices.ensures.record (subst IsDescription caps c.copy-caps.ensures.description)
-      c.gather-pass.result.ends.items c.gather-pass.ensures.ends));
+      c.join_workers-pass.result.ends.items c.join_workers-pass.ensures.ends));
 }

@@ -1,5 +1,5 @@
 use Rattle.std.proofs.Common.{refl, sym}
-use Rattle.inp_joy.specs.Kept.{kept_joying}
+use Rattle.inp_joy.specs.JoyState.{kept_joying}
 use Rattle.inp_joy.proofs.TurnCases.{stopped-other}
 use Rattle.inp_joy.proofs.joy_state.JoyState.after_next.Goals as goal
 

@@ -3,7 +3,7 @@ use Rattle.inp_reader.specs.declared.call_made.CallMade.{CallMade}
 use Rattle.inp_reader.proofs.SynthesisedViews.{start-kept}
 use Rattle.inp_joy.specs.declared.joy_state.JoyState.{JoyState}
 use Rattle.inp_joy.specs.Joy.{with_reading}
-use Rattle.inp_joy.specs.Kept.{kept_joying}
+use Rattle.inp_joy.specs.JoyState.{kept_joying}
 use Rattle.inp_joy.proofs.Nexts.{start-left}
 use Rattle.inp_joy.proofs.TurnCases.{says-started}
 use Rattle.inp_joy.proofs.TurnEnds.{start-pictured}

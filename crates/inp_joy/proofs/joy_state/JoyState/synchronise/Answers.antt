@@ -1,6 +1,6 @@
 use Rattle.std.proofs.Common.{sym, ap}
 use Rattle.inp_joy.specs.declared.joy_state.JoyState.{JoyState}
-use Rattle.inp_joy.specs.Kept.{kept_joying}
+use Rattle.inp_joy.specs.JoyState.{kept_joying}
 use Rattle.inp_joy.proofs.ReaderCalls.{calls-weaker}
 use Rattle.inp_joy.proofs.Outcomes.{stop-less, sync-shows}
 use Rattle.inp_joy.proofs.TurnCases.{says-sync_stopped, says-sync_whole}

@@ -1,6 +1,6 @@
 use Rattle.std.proofs.Common.{refl, ap, arith}
 use Rattle.inp_joy.specs.declared.joy_state.JoyState.{JoyState}
-use Rattle.inp_joy.specs.Kept.{kept_joying}
+use Rattle.inp_joy.specs.JoyState.{kept_joying}
 use Rattle.inp_joy.proofs.ReaderCalls.{calls-then, calls-weaker}
 use Rattle.inp_joy.proofs.Outcomes.{next-less, less-then, next-shows}
 use Rattle.inp_joy.proofs.Nexts.{lost-needed}

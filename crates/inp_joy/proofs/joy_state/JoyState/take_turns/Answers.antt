@@ -1,5 +1,5 @@
 use Rattle.std.proofs.Common.{refl, length, false, ◌∙◌, sym, ap, arith}
-use Rattle.inp_joy.specs.Kept.{kept_joying, is_end}
+use Rattle.inp_joy.specs.JoyState.{kept_joying, is_end}
 use Rattle.inp_joy.proofs.ReaderCalls.{calls-none, calls-then, calls-weaker}
 use Rattle.inp_joy.proofs.Outcomes.{less-then}
 use Rattle.inp_joy.proofs.ReadTurns.{passed-none, passed-more, passed-last, on-less, on-short, on-agains}

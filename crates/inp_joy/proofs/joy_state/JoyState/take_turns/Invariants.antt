@@ -1,7 +1,7 @@
 use Rattle.std.proofs.Common.{◌≡◌, ◌≤◌, ◌<◌, true, [], length}
 use Rattle.inp_reader.specs.Effort.{effort}
 use Rattle.inp_joy.specs.Joy.{is_startup_over}
-use Rattle.inp_joy.specs.Kept.{kept_joying, IsJoyState, ReaderCalls}
+use Rattle.inp_joy.specs.JoyState.{kept_joying, IsJoyState, ReaderCalls}
 use Rattle.inp_joy.specs.Reads.{IsPictured}
 use Rattle.inp_joy.proofs.ReadTurns.{Passed}
 use Rattle.inp_joy.proofs.joy_state.JoyState.take_turns.Given as goal

@@ -1,7 +1,7 @@
 use Rattle.std.proofs.Common.{sym, subst, Some, refl}
 use Rattle.inp_joy.specs.declared.joy_state.JoyState.{JoyState}
 use Rattle.inp_joy.specs.Joy.{next_in_startup}
-use Rattle.inp_joy.specs.Kept.{kept_joying, turn_of_end, ReaderCalls, TurnEndPictures}
+use Rattle.inp_joy.specs.JoyState.{kept_joying, turn_of_end, ReaderCalls, TurnEndPictures}
 use Rattle.inp_joy.proofs.ReaderCalls.{calls-none, calls-weaker}
 use Rattle.inp_joy.proofs.Outcomes.{hand_out_record-pictures, shows-pictures, startup-less}
 use Rattle.inp_joy.proofs.TurnEnds.{over-none, startup_over, record-pictured, turn-pictured, outcome-pictured}

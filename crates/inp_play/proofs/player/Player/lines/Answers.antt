@@ -111,7 +111,7 @@ within_all number count all lines same below few =
 pub inject_all-requires-clause-source : goal.inject_all-requires-clause-source
 inject_all-requires-clause-source c =
     let r = c.args.rec.now in
-    let count = c.gather-count.result in
+    let count = c.gather_front-count.result in
     let f =
     found_by r c.args.self.now c.args.line c.get-text.result.now c.get.result.now c.index_mut-actor.result.now
     c.index_mut-dev.result.now _ _ c.lines-lines.ensures.record c.requires.player
@@ -119,7 +119,7 @@ inject_all-requires-clause-source c =
     c.index_mut-actor.ensures.value c.index_mut-dev.ensures.value in
     let are =
     are_injects r c.args.line count c.get-text.result.now.actor c.as_slice.result.now _
-    (c.as_slice.ensures.items ∙ c.lines-lines.ensures.lines) c.gather-count.ensures.gathered in
+    (c.as_slice.ensures.items ∙ c.lines-lines.ensures.lines) c.gather_front-count.ensures.gathered in
     sym
     (found-same_role r c.args.self.now.devices.items c.args.self.now.actors.items c.args.line
     c.get-text.result.now c.get.result.now c.index_mut-actor.result.now c.index_mut-dev.result.now f)
@@ -128,7 +128,7 @@ inject_all-requires-clause-source c =
     (omega (
       arith,
       c.if-count-eq0.false,
-      length-take-le count c.gather-count.new.events c.gather-count.ensures.fits,
+      length-take-le count c.gather_front-count.new.events c.gather_front-count.ensures.fits,
     ))
 
 -- the events are those of the record's lines, whose moments are within their limit
@@ -140,10 +140,10 @@ inject_all-requires-clause-moments c =
     c.index_mut-dev.result.now _ _ c.lines-lines.ensures.record c.requires.player
     c.lines-lines.ensures.lines c.get-text.ensures.item c.actors.ensures.actors c.get.ensures.item
     c.index_mut-actor.ensures.value c.index_mut-dev.ensures.value in
-    injects-in_time r c.args.line c.gather-count.result c.get-text.result.now.actor c.get.result.now _
+    injects-in_time r c.args.line c.gather_front-count.result c.get-text.result.now.actor c.get.result.now _
     c.lines-lines.ensures.record f.is_text
-    (are_injects r c.args.line c.gather-count.result c.get-text.result.now.actor c.as_slice.result.now _
-    (c.as_slice.ensures.items ∙ c.lines-lines.ensures.lines) c.gather-count.ensures.gathered)
+    (are_injects r c.args.line c.gather_front-count.result c.get-text.result.now.actor c.as_slice.result.now _
+    (c.as_slice.ensures.items ∙ c.lines-lines.ensures.lines) c.gather_front-count.ensures.gathered)
 
 -- the gathered lines were done by one call, which injected their events
 pub returns : goal.returns
@@ -151,7 +151,7 @@ returns c =
     let r = c.args.rec.now in
     let old : Player = c.args.self.now in
     let number = c.args.line in
-    let count = c.gather-count.result in
+    let count = c.gather_front-count.result in
     let line : Line = c.get-text.result.now in
     let text : ActorText = c.get.result.now in
     let a = c.index_mut-actor.result.now in
@@ -163,8 +163,9 @@ returns c =
     c.index_mut-actor.ensures.value c.index_mut-dev.ensures.value in
     let same = c.as_slice.ensures.items ∙ c.lines-lines.ensures.lines in
     let are =
-    are_injects r number count line.actor c.as_slice.result.now _ same c.gather-count.ensures.gathered in
-    let long = length-take-le count c.gather-count.new.events c.gather-count.ensures.fits in
+    are_injects r number count line.actor c.as_slice.result.now _ same c.gather_front-count.ensures.gathered
+    in
+    let long = length-take-le count c.gather_front-count.new.events c.gather_front-count.ensures.fits in
     let some : 1 ≤ count = omega (arith, c.if-count-eq0.false) in
     let source = sym (found-same_role r old.devices.items old.actors.items number line text a device f)
     ∙ injects-source r number count line.actor text _ c.lines-lines.ensures.record f.is_text are
@@ -174,7 +175,8 @@ returns c =
     let owns = ap (λ (x : ActorView). record a { job = b.job; owning = x.owning }) (sym actor) in
     let all =
     leaves r number count 0 old _ line text a b device after f some
-    (within_all number count c.as_slice.result.now r.lines same c.requires.line c.gather-count.ensures.within)
+    (within_all number count c.as_slice.result.now r.lines same c.requires.line
+    c.gather_front-count.ensures.within)
     refl refl (actor ∙ owns)
     (description-kept (owned_view device) (owned_view after) holds.calls holds.are_calls)
     (ap (after_lines r 0 (stage_of old)) are

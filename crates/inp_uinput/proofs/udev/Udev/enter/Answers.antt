@@ -6,7 +6,7 @@ use Rattle.inp_model.specs.DeviceView.{DeviceView}
 use Rattle.inp_feedback.specs.declared.u_entry.UEntry.{UEntry}
 use Rattle.inp_feedback.specs.declared.u_entry.UEntry.TheVariants.{Made}
 use Rattle.inp_feedback.specs.UEntry.{steps_in}
-use Rattle.inp_feedback.specs.Kept.{kept_of}
+use Rattle.inp_feedback.specs.KeptList.{kept_of}
 use Rattle.inp_feedback.proofs.Lists.{steps_in-kept_of, kept_of-made}
 use Rattle.inp_uinput.specs.UdevView.{UdevView}
 use Rattle.inp_uinput.proofs.Udevs.{history_over, beside_same, beside_made}

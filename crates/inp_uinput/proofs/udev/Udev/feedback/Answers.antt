@@ -9,7 +9,7 @@ use Rattle.inp_model.specs.Reply.{written}
 use Rattle.inp_feedback.specs.declared.feedback_call.FeedbackCall.{FeedbackCall}
 use Rattle.inp_feedback.specs.declared.fed.TheConstants.{FEEDBACK_MAX}
 use Rattle.inp_feedback.specs.Feedback.{feedback_queue, is_full_of_feedback}
-use Rattle.inp_feedback.specs.Kept.{kept_of}
+use Rattle.inp_feedback.specs.KeptList.{kept_of}
 use Rattle.inp_uinput.specs.KeptBeside.{IsKeptBeside}
 use Rattle.inp_uinput.proofs.Udevs.{queue_within, at_limit, full_answer, full_taken, full_kept, below_limit}
 use Rattle.inp_uinput.proofs.Udevs.{some_answer, some_written, some_kept, calls_pushed, beside_fed}

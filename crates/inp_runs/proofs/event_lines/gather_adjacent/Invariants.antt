@@ -1,6 +1,6 @@
 use Rattle.std.proofs.Common.{◌≡◌, length, take}
 use Rattle.inp_runs.specs.EventLines.{AreAdjacent, AreEventLines}
-use Rattle.inp_runs.proofs.event_lines.gather.Given as goal
+use Rattle.inp_runs.proofs.event_lines.gather_adjacent.Given as goal
 
 abbrev pub invariant-loop-at : goal.invariant-loop-at
 invariant-loop-at l = record {

@@ -4,7 +4,7 @@ use Rattle.std.proofs.lemmas.Grind.{common_steps}
 use Rattle.std.proofs.lemmas.Option.{get_or_from_slice_get}
 use Rattle.inp_runs.specs.EventLines.{AreAdjacent}
 use Rattle.inp_runs.proofs.Common.{cases_lt}
-use Rattle.inp_runs.proofs.event_lines.gather.Goals as goal
+use Rattle.inp_runs.proofs.event_lines.gather_adjacent.Goals as goal
 
 -- the next number is one more than the last one
 adjacent-more : (numbers : List ℕ) (at : ℕ) → get_or numbers at 0 ≡ get_or numbers 0 0 + at

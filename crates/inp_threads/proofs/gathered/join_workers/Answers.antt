@@ -7,7 +7,7 @@ use Rattle.inp_script.proofs.Common.{ended_of}
 use Rattle.inp_threads.specs.Joined.{IsSizedWorker}
 use Rattle.inp_threads.proofs.Common.{view_of, Worker}
 use Rattle.inp_threads.proofs.Passes.{done-more, joined-more}
-use Rattle.inp_threads.proofs.gathered.gather.Goals as goal
+use Rattle.inp_threads.proofs.gathered.join_workers.Goals as goal
 
 pub add-gathered-requires-clause-back : goal.add-gathered-requires-clause-back
 add-gathered-requires-clause-back c =

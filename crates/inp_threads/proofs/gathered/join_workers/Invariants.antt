@@ -2,7 +2,7 @@ use Rattle.std.proofs.Common.{◌≡◌, vec_capacity, true}
 use Rattle.inp_port.specs.Port.{IsReadyAt}
 use Rattle.inp_threads.specs.Joined.{AreSized, ends_of_workers}
 use Rattle.inp_threads.proofs.Common.{view_of, AreJoined, AreWorkersDone}
-use Rattle.inp_threads.proofs.gathered.gather.Given as goal
+use Rattle.inp_threads.proofs.gathered.join_workers.Given as goal
 
 -- the passes of the workers so far were joined, and their actors finished
 abbrev pub invariant-loop-worker : goal.invariant-loop-worker
