@@ -13,11 +13,11 @@ use inp_model::{Evdev, Event, Injected, Reply, Stamped, Step, Taken};
 use std::hint::spin_loop;
 use std::thread::yield_now;
 
-/// How often a job spins before a call for each answer Again that came last (this project's choice).
-const SPINS: u32 = 32;
+/// How often a job yields the processor before a call, at most (this project's choice).
+const MOST_RESTS: u32 = 8;
 
-/// So many such answers count, at most (this project's choice).
-const MOST_AGAINS: u32 = 16;
+/// How often it spins before it yields (this project's choice).
+const SPINS: u32 = 16;
 
 /// An evdev that passes a gate before each call, also before one that injects many events and before a feedback call.
 /// To a contract it is the evdev behind the gate.
@@ -25,7 +25,8 @@ const MOST_AGAINS: u32 = 16;
 /// After a call the gate was told of it: its job, and how many calls were made before.
 ///
 /// A job that found nothing rests before its next call, since each call takes the turn from the sources that it waits
-/// for. It spins, longer after each answer `Again` in a row up to 16 of them, and then yields the processor once.
+/// for. After the first answer `Again` in a row it spins for a moment and yields the processor, after the second it does
+/// so twice, and so on up to eight times.
 #[derive(Drop)]
 pub struct Gated<'a, E, G> {
     /// The evdev that makes the calls.
@@ -59,13 +60,17 @@ impl<'a, E, G> Gated<'a, E, G> {
 
 // Rests before a call, where so many answers Again came last.
 fn rest(agains: u32) {
-    if agains == 0 {
-        return;
+    for _ in 0..agains.min(MOST_RESTS) {
+        spin();
+        yield_now();
     }
-    for _ in 0..SPINS * agains.min(MOST_AGAINS) {
+}
+
+// Spins for about as long as a yield takes.
+fn spin() {
+    for _ in 0..SPINS {
         spin_loop();
     }
-    yield_now();
 }
 
 // How many answers Again came last, one after another, where this one comes after so many.
