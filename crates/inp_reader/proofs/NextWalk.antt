@@ -266,7 +266,7 @@ module _ {S : Type 0} (P : S → Step → Type 0) (R : S → Step → Answer →
     pub idles : (s : S) (r : ReaderState) → I s r → r.phase ≡ Plain → mode ≡ Synchronising → Q s (Synced, r)
     -- a synchronisation
     pub syncs : (s : S) (r : ReaderState) → I s r → r.phase ≡ Needed
-    → Meets P R (Renewed I Q r) s (sync_talk d r)
+        → Meets P R (Renewed I Q r) s (sync_talk d r)
     -- the next event that it made, if there is one, or on without them
     pub makes : (s : S) (r : ReaderState) (event : Event) (left : List Event) → I s r → r.phase ≡ Handing
         → mode ≡ Synchronising → r.left ≡ event ∷ left → Q s (Sync event, record r { left = left })
@@ -307,7 +307,7 @@ module _ {S : Type 0} (P : S → Step → Type 0) (R : S → Step → Answer →
       read t r (taken ∷ rest) is i plain = event t r taken rest i plain is
 
       synthesised : mode ≡ Synchronising → (t : S) (r : ReaderState) (left : List Event) → r.left ≡ left
-      → I t r
+          → I t r
           → r.phase ≡ Handing → Q t (hand_synthesised r left)
       synthesised e t r [] is i p = rules.made_all t r i p e is
       synthesised e t r (event ∷ left) is i p = rules.makes t r event left i p e is

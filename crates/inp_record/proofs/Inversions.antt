@@ -195,7 +195,7 @@ unfolding behind_lines
 lines_mean k line lines past now e = by_line (behind_line past line) e
   where
     by_line : (means : Result ItemsBefore Cause)
-    → then_lines k means (λ x. behind_lines (suc k) lines x) ≡ Ok now
+        → then_lines k means (λ x. behind_lines (suc k) lines x) ≡ Ok now
         → (mid : ItemsBefore) × (means ≡ Ok mid) × (behind_lines (suc k) lines mid ≡ Ok now)
     by_line (Err cause) e = absurd (cc e)
     by_line (Ok mid) e = (mid, refl, e)

@@ -231,7 +231,7 @@ module _ (d : Description) where
     }
 
     reader_start-shows : (j : JoystickState) (o : Started × ReaderState) (calls : List Call)
-    → ArePlaced d h calls
+        → ArePlaced d h calls
         → EndsWith (start_talk d j.reading) calls o
         → joy_fold d (shown j.picture) (noted_sight calls) ≡ shown (joy_started d j o).1.picture
     reader_start-shows j o calls placed ends =
@@ -254,7 +254,7 @@ module _ (d : Description) where
         })) (shown-run (shown p) calls placed) ends
 
     joy_start-shows : (j : JoystickState) (o : Started × JoystickState) (calls : List Call)
-    → ArePlaced d h calls
+        → ArePlaced d h calls
         → EndsWith (joy_start d j) calls o
         → joy_fold d (shown j.picture) (noted_sight calls) ≡ shown o.1.picture
     unfolding joy_start
@@ -301,7 +301,7 @@ module _ (d : Description) where
             rw (← stopped-picture p (joy_read_of (reader_stop reply)) (reply-stops reply), ← e)
 
     synchronises-shows : (j : JoystickState) (calls : List Call) (t : JoyTurn)
-    → is_needed j.reading.phase ≡ true
+        → is_needed j.reading.phase ≡ true
         → ArePlaced d h calls → Synchronises d j calls t → Shows j.picture (noted_sight calls) t
     synchronises-shows j calls t needed placed s =
         rw (← s.comes_to) (joying_after_sync-shows _ j s.reading _
@@ -340,7 +340,7 @@ module _ (d : Description) where
         )
 
     turn-shows : (j : JoystickState) (calls : List Call) (t : JoyTurn) → ArePlaced d h calls
-    → TurnCase d j calls t
+        → TurnCase d j calls t
         → Shows j.picture (noted_sight calls) t
     turn-shows j calls t placed (of_startup r at none is) =
         rw (← is, none) (record-shows j.picture r (startup-fits d j.reading.view j.handed r at))
