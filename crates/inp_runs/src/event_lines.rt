@@ -41,7 +41,12 @@ pub fn event_of(line: &Line, actor: u32) -> Option<Stamped>
 
 // Gathers the events of the lines of these numbers, up to the first one that another line stands before, or that is
 // another actor's or does something else. Says how many they are: no more than there is room for.
-pub(crate) fn gather_adjacent(rec: &Record, numbers: &[u32], actor: u32, events: &mut [Stamped]) -> usize
+pub(crate) fn gather_adjacent(
+    rec: &Record,
+    numbers: &[u32],
+    actor: u32,
+    events: &mut [Stamped],
+) -> usize
     requires numbers { (i number : ℕ) → slice_get numbers.now i ≡ Some number
         → number < length rec.now.lines }
     ensures fits { result ≤ length events.new }

@@ -101,7 +101,7 @@ returns-clause-done g c =
       are_lines =
           rw (
             own-events c.args.rec.now c.args.number c.args.from c.gather_adjacent-count.result
-            c.args.lines.now _
+                c.args.lines.now _
                 c.requires.lines are,
             ← c.requires.number,
           );
