@@ -9,7 +9,7 @@ use denote.Builtin.{RawPtr}
 use denote.RawPtr.{Ptr, ptr_val}
 use denote.Steps.{nothing}
 use denote.Struct.Struct.{within}
-use denote.Struct.OwnerState.{shape}
+use denote.Struct.Owning.{shape}
 use Rattle.std.specs.Prelude.{Option, Some, None, IsSome}
 use Rattle.inp_c.specs.Loose.{loose_owns}
 use Rattle.inp_c.specs.declared.kept.Kept.{Kept}

@@ -17,7 +17,7 @@ use denote.Steps.{nothing}
 use denote.Param.{layout}
 use denote.Param.Laws.{Laws}
 use denote.Struct.Struct.{within}
-use denote.Struct.OwnerState.{shape}
+use denote.Struct.Owning.{shape}
 use Rattle.std.specs.declared.alloc.Allocator.{Ghosts}
 use Rattle.std.proofs.alloc.Calls.{Al, handle_tells}
 use Rattle.std.specs.Box.Ownership.{box_owns}
