@@ -24,11 +24,11 @@ use Rattle.inp_tool.specs.declared.outcome.Outcome.TheVariants.{Usage, Unread, T
 use Rattle.inp_tool.specs.declared.outcome.Outcome.TheVariants.{Played as WasPlayed, Migrated}
 use Rattle.inp_tool.specs.Edge.{Reads, Writes}
 use Rattle.inp_tool.specs.Streams.{StreamFile, file_of, stream_files, events_in, HoldEvents}
-use Rattle.inp_tool.specs.Outcome.{played_status}
-use Rattle.inp_tool.specs.RecordFile.{IsRead, IsUnread, IsTooLong, AreRead, IsParsed, IsAtStream, IsNext}
-use Rattle.inp_tool.specs.RecordFile.{HasBadText, HasBadStream, HasRecord}
-use Rattle.inp_tool.specs.Promise.{AskFor, NameFile, IsResultOf, HasCause, IsWrittenWhole, IsWritten, Promise}
-use Rattle.inp_tool.specs.Complete.{IsFaultless, IsThere, AreThere, IsReadable, played_by, IsTold}
+use Rattle.inp_tool.specs.Outcome.{played_status, no_play, end_with}
+use Rattle.inp_tool.specs.RecordFile.{IsRead, IsUnread, IsTooLong, HaveContents, IsParsed, IsAtStream, IsNext}
+use Rattle.inp_tool.specs.RecordFile.{HasNext, HasRecord}
+use Rattle.inp_tool.specs.Promise.{AskFor, NameFile, IsResultOf, IsNoRecord, HasCause, IsWrittenWhole, IsWritten, Promise}
+use Rattle.inp_tool.specs.Complete.{IsFaultless, IsThere, IsReadable, IsTold}
 use Rattle.inp_tool.specs.Complete.{made_summary, IsToldWhole, IsRewritten, IsComplete}
 use Rattle.inp_tool.proofs.MadeBounds.{asked-not_full}
 use Rattle.inp_tool.proofs.MadeAlone.{made-no_joys, made-no_owners}
@@ -52,7 +52,7 @@ each_behind P [] streams h = h
 each_behind P (stream ∷ front) streams h = each_behind P front streams h.1
 
 each_has : (files : List File) (its : List StreamFile) (contents : List (List ℕ))
-    (streams : List (List Stamped)) → AreThere files its contents → HoldEvents its contents streams
+    (streams : List (List Stamped)) → HaveContents (IsThere files) its contents → HoldEvents its contents streams
     → Each (HasStream files) its
 each_has files [] [] streams h e = tt
 each_has files (stream ∷ its) (bytes ∷ contents) [] h e = absurd e
@@ -96,8 +96,8 @@ there_is_within told files name bytes e is h =
 
 -- contents that were read of files that are there
 same_contents : (r : Reads) (files : List File) (streams : List StreamFile) (contents others : List (List ℕ))
-    → r.files ≡ Some files → IsTrue (is_some r.after.left) → AreThere files streams contents
-    → AreRead r streams others → others ≡ contents
+    → r.files ≡ Some files → IsTrue (is_some r.after.left) → HaveContents (IsThere files) streams contents
+    → HaveContents (IsRead r) streams others → others ≡ contents
 same_contents r files [] [] [] e told h k = refl
 same_contents r files (stream ∷ streams) (bytes ∷ contents) (its ∷ others) e told h k =
     let first : its ≡ bytes =
@@ -131,32 +131,33 @@ module _ (r : Reads) (file : List ℕ) (recorded : RecordView) (readable : IsRea
   told : IsTrue (is_some r.after.left)
   told = stays ∙ readable.told_bytes
 
-  same_text : (text : List ℕ) → IsRead r file text → text ≡ readable.text
+  same_text : (text : List ℕ) → IsRead r file text → text ≡ readable.there.text
   same_text text h =
-      same_bytes r.files readable.files file readable.text text readable.told_files
-      readable.there.file (h.whole told)
+      same_bytes r.files readable.files file readable.there.text text readable.told_files
+      readable.there.is_parsed.read.file (h.whole told)
 
-  same_record : (text : List ℕ) (parsed : RecordView) → IsParsed r file text parsed → parsed ≡ readable.parsed
+  same_record : (text : List ℕ) (parsed : RecordView) → IsParsed (IsRead r) file text parsed
+      → parsed ≡ readable.there.parsed
   same_record text parsed h =
       let same = same_text text h.read in
-      let means : meaning readable.text ≡ Ok parsed = ap meaning (sym same) ∙ h.means in
-      cc (means, readable.means)
+      let means : meaning readable.there.text ≡ Ok parsed = ap meaning (sym same) ∙ h.means in
+      cc (means, readable.there.is_parsed.means)
 
-  stream_there : (parsed : RecordView) (line : ℕ) (stream : StreamFile) → parsed ≡ readable.parsed
+  stream_there : (parsed : RecordView) (line : ℕ) (stream : StreamFile) → parsed ≡ readable.there.parsed
       → IsAtStream r parsed line stream → HasStream readable.files stream
   stream_there parsed line stream same at =
       let found =
       line_found (λ (l : Line). file_of l.command) (slice_get parsed.lines line) (stream ∷ []) at.here in
-      let here : slice_get readable.parsed.lines line ≡ Some found.0 = rw (← same) found.1 in
+      let here : slice_get readable.there.parsed.lines line ≡ Some found.0 = rw (← same) found.1 in
       let all =
-      each_has readable.files (stream_files readable.parsed.lines) readable.contents readable.streams
-      readable.are_there readable.stamps in
-      at_line (HasStream readable.files) readable.parsed.lines line found.0 stream all here found.2
+      each_has readable.files (stream_files readable.there.parsed.lines) readable.there.contents
+      readable.there.streams readable.there.loaded.read readable.there.loaded.stamps in
+      at_line (HasStream readable.files) readable.there.parsed.lines line found.0 stream all here found.2
 
   next_there : (name : List ℕ) → IsNext r file name → (bytes : List ℕ) × IsThere readable.files name bytes
   next_there name (inl e) =
-      let P : List ℕ → Type 0 = λ n. IsThere readable.files n readable.text in
-      (readable.text, subst P (sym e) readable.there)
+      let P : List ℕ → Type 0 = λ n. IsThere readable.files n readable.there.text in
+      (readable.there.text, subst P (sym e) readable.there.is_parsed.read)
   next_there name (inr h) =
       let has = stream_there h.parsed h.line h.stream (same_record h.text h.parsed h.is_parsed) h.at in
       let P : List ℕ → Type 0 = λ n. IsThere readable.files n has.bytes in
@@ -175,11 +176,11 @@ module _ (r : Reads) (file : List ℕ) (recorded : RecordView) (readable : IsRea
       let is = next_there name next in
       there_is_within r.files readable.files name is.0 readable.told_files is.1 (h.longer told)
 
-  not_refused : (refused : Refusal) → HasBadText r file refused ⊎ HasBadStream r file refused → ⊥
+  not_refused : (refused : Refusal) → IsNoRecord r refused file → ⊥
   not_refused refused (inl h) =
       let same = same_text h.text h.read.read in
-      let means : meaning readable.text ≡ Err refused = ap meaning (sym same) ∙ h.means in
-      cc (means, readable.means)
+      let means : meaning readable.there.text ≡ Err refused = ap meaning (sym same) ∙ h.means in
+      cc (means, readable.there.is_parsed.means)
   not_refused refused (inr h) =
       let has =
       stream_there h.parsed h.bad.line h.bad.stream (same_record h.text h.parsed h.is_parsed) h.bad.at in
@@ -192,37 +193,32 @@ module _ (r : Reads) (file : List ℕ) (recorded : RecordView) (readable : IsRea
 
   same_whole : (its : RecordView) → HasRecord r file its → its ≡ recorded
   same_whole its h =
-      let parsed = same_record h.text h.parsed h.is_parsed in
-      let P : RecordView → Type 0 = λ p. AreRead r (stream_files p.lines) h.contents in
+      let parsed = same_record h.is.text h.is.parsed h.is.is_parsed in
+      let P : RecordView → Type 0 = λ p. HaveContents (IsRead r) (stream_files p.lines) h.is.contents in
       let contents =
       same_contents r readable.files
-      (stream_files readable.parsed.lines) readable.contents h.contents readable.told_files told
-      readable.are_there (subst P parsed h.loaded.read) in
-      let L : RecordView → Type 0 = λ p. HoldEvents (stream_files p.lines) h.contents h.streams in
-      let C : List (List ℕ) → Type 0 = λ c. HoldEvents (stream_files readable.parsed.lines) c h.streams in
+      (stream_files readable.there.parsed.lines) readable.there.contents h.is.contents readable.told_files told
+      readable.there.loaded.read (subst P parsed h.is.loaded.read) in
+      let L : RecordView → Type 0 = λ p. HoldEvents (stream_files p.lines) h.is.contents h.is.streams in
+      let C : List (List ℕ) → Type 0 =
+      λ c. HoldEvents (stream_files readable.there.parsed.lines) c h.is.streams in
       let streams =
-      same_streams (stream_files readable.parsed.lines) readable.contents h.streams readable.streams
-      (subst C contents (subst L parsed h.loaded.stamps)) readable.stamps in
-      rw (h.whole, parsed, streams) (sym readable.whole)
+      same_streams (stream_files readable.there.parsed.lines) readable.there.contents h.is.streams
+      readable.there.streams (subst C contents (subst L parsed h.is.loaded.stamps))
+      readable.there.loaded.stamps in
+      rw (h.is.whole, parsed, streams) (sym readable.there.whole)
 
--- the end has what was found
-same_played : (end : End) (played : Played) → end.runs ≡ played.runs → end.joys ≡ played.joys
-    → end.owners ≡ played.owners → played_by end ≡ played
-same_played end played runs joys owners = rw (runs, joys, owners)
+-- the status is that of want of memory
+lacks_memory : (w : Writes) (end : End) → IsWrittenWhole w NoMemory end → end.status ≡ 5
+lacks_memory w end whole = rw whole.ended
 
 -- what came of a record was told
 is_told : (w : Writes) (idle : Option ℕ) (recorded : RecordView) (text : Played → List ℕ) (played : Played)
     (says : List ℕ) (end : End) → IsResultOf idle recorded played → says ≡ text played
-    → played_by end ≡ played
-    → end.status ≡ played_status played → Appends says w.before.written w.after.written
+    → end ≡ end_with (played_status played) None played → Appends says w.before.written w.after.written
     → IsTold w idle recorded text end
-is_told w idle recorded text played says end came e same status written =
-    let P : Played → Type 0 =
-    λ p. (end.status ≡ played_status p) × Appends (text p) w.before.written w.after.written in
-    let Q : List ℕ → Type 0 = λ t. Appends t w.before.written w.after.written in
-    let here : P played = (status, subst Q e written) in
-    let at = subst P (sym same) here in
-    record { came = subst (IsResultOf idle recorded) (sym same) came; status = at.0; written = at.1 }
+is_told w idle recorded text played says end came e ended written =
+    record { played = played; came = came; ended = ended; written = rw e at written }
 
 -- what a call may find of a record that is there
 abbrev IsReached : Outcome → Type 0
@@ -241,18 +237,15 @@ reached words r Usage file recorded named readable stays faultless h =
     refused_names_none words file h.refused named
 reached words r Unread file recorded named readable stays faultless h =
     let same = same_file words file h.file named h.named in
-    let P : List ℕ → Type 0 = λ f. IsNext r f h.unread.name in
-    not_unread r file recorded readable stays faultless h.unread.name
-    (subst P same h.unread.next) h.unread.unread
+    let next : HasNext r file (IsUnread r) = rw same at h.is in
+    not_unread r file recorded readable stays faultless next.name next.next next.is
 reached words r TooLong file recorded named readable stays faultless h =
     let same = same_file words file h.file named h.named in
-    let P : List ℕ → Type 0 = λ f. IsNext r f h.too_long.name in
-    not_too_long r file recorded readable stays faultless h.too_long.name
-    (subst P same h.too_long.next) h.too_long.too_long
+    let next : HasNext r file (IsTooLong r) = rw same at h.is in
+    not_too_long r file recorded readable stays faultless next.name next.next next.is
 reached words r (Refused refused text) file recorded named readable stays faultless h =
-    let same = same_file words file h.file named h.named in
-    let P : List ℕ → Type 0 = λ f. HasBadText r f refused ⊎ HasBadStream r f refused in
-    not_refused r file recorded readable stays faultless refused (subst P same h.why)
+    let same = same_file words file h.0.file named h.0.named in
+    not_refused r file recorded readable stays faultless refused (subst (IsNoRecord r refused) same h.0.is)
 reached words r found file recorded named readable stays faultless h = tt
 
 -- a record that is there was played, or memory ran out
@@ -263,7 +256,7 @@ by_outcome : (words : Arguments) (r : Reads) (w : Writes) (end : End) (found : O
     → IsReached found → HasCause words r found → IsWrittenWhole w found end
     → (end.status ≡ 5) ⊎ IsTold w idle recorded (whole_report recorded history) end
 by_outcome words r w end NoMemory file history idle recorded asked readable stays faultless there h whole =
-    inl whole.ended.status
+    inl (lacks_memory w end whole)
 by_outcome words r w end (WasPlayed played text) file history idle recorded asked readable stays faultless
     there (inl h) whole =
     let same =
@@ -278,9 +271,7 @@ by_outcome words r w end (WasPlayed played text) file history idle recorded aske
     h.says ∙ ap (λ (x : RecordView). whole_report x h.history played) its
     ∙ ap (λ (b : Bool). whole_report recorded b played) same_history in
     inr (is_told w idle recorded (whole_report recorded history) played text.items end
-    (subst C its (rw same_idle at h.came)) says
-    (same_played end played whole.ended.runs whole.ended.joys whole.ended.owners)
-    whole.ended.status whole.written)
+    (subst C its (rw same_idle at h.came)) says whole.ended whole.written)
 by_outcome words r w end (WasPlayed played text) file history idle recorded asked readable stays faultless
     there (inr h) whole = let never : ⊥ = cc (h.asked, asked) in absurd never
 by_outcome words r w end (Migrated text) file history idle recorded asked readable stays faultless there h
@@ -295,7 +286,7 @@ by_outcome_migrated : (words : Arguments) (r : Reads) (w : Writes) (end : End) (
     → IsReached found → HasCause words r found → IsWrittenWhole w found end
     → (end.status ≡ 5) ⊎ IsRewritten w recorded end
 by_outcome_migrated words r w end NoMemory file recorded asked readable stays faultless there h whole =
-    inl whole.ended.status
+    inl (lacks_memory w end whole)
 by_outcome_migrated words r w end (WasPlayed played text) file recorded asked readable stays faultless there
     (inl h) whole = let never : ⊥ = cc (h.asked, asked) in absurd never
 by_outcome_migrated words r w end (WasPlayed played text) file recorded asked readable stays faultless there
@@ -307,13 +298,7 @@ by_outcome_migrated words r w end (Migrated text) file recorded asked readable s
     let its = same_whole r file recorded readable stays faultless h.recorded (subst P same h.read) in
     let says : text.items ≡ record_text (upgraded recorded) = rw (h.says, its) in
     let Q : List ℕ → Type 0 = λ t. Appends t w.before.written w.after.written in
-    inr (record {
-      status = whole.ended.status;
-      runs = whole.ended.runs;
-      joys = whole.ended.joys;
-      owners = whole.ended.owners;
-      written = subst Q says whole.written;
-    })
+    inr (record { ended = whole.ended; written = subst Q says whole.written })
 by_outcome_migrated words r w end found file recorded asked readable stays _ there h whole = absurd there
 
 -- a record that was to be made was played, or memory ran out
@@ -323,7 +308,7 @@ by_outcome_made : (words : Arguments) (r : Reads) (w : Writes) (end : End) (foun
     → (end.status ≡ 5) ⊎ IsTold w None (generated number count) (made_summary number count) end
 by_outcome_made words r w end Usage number count asked h whole = let never : ⊥ =
     cc (h.refused, asked) in absurd never
-by_outcome_made words r w end NoMemory number count asked h whole = inl whole.ended.status
+by_outcome_made words r w end NoMemory number count asked h whole = inl (lacks_memory w end whole)
 by_outcome_made words r w end (WasPlayed played text) number count asked (inl h) whole = let never : ⊥ =
     cc (h.asked, asked) in absurd never
 by_outcome_made words r w end (Migrated text) number count asked h whole = let never : ⊥ =
@@ -335,9 +320,9 @@ by_outcome_made words r w end (WasPlayed played text) number count asked (inr h)
     λ x y. IsResultOf None (generated x y) played × (text.items ≡ made_summary x y played) in
     let here : C number count = rw c at (subst (λ (x : ℕ). C x h.count) n (h.came, h.says)) in
     inr (is_told w None (generated number count)
-    (made_summary number count) played text.items end here.0 here.1
-    (same_played end played whole.ended.runs whole.ended.joys whole.ended.owners)
-    whole.ended.status whole.written)
+    (made_summary number count) played text.items end here.0 here.1 whole.ended whole.written)
+by_outcome_made words r w end (Refused refused text) number count asked h whole =
+    absurd (made_names_none words number count h.0.file asked h.0.named)
 by_outcome_made words r w end found number count asked h whole =
     absurd (made_names_none words number count h.file asked h.named)
 
@@ -380,13 +365,13 @@ when_made words r w end p number count asked no_write =
       | inl lacks ↦ inl lacks
       | inr told ↦
           let promised = told.came.promised in
-          let full = asked-not_full words number count (played_by end) asked (told.came.in_order refl)
+          let full = asked-not_full words number count told.played asked (told.came.in_order refl)
           promised.joys_of promised.owners_of in
           inr (record {
             told = told;
-            status = rw (told.status, full);
-            joys = made-no_joys number count end.joys promised.joys_of;
-            owners = made-no_owners number count end.owners promised.owners_of;
+            status = rw (told.ended, full);
+            joys = rw told.ended (made-no_joys number count told.played.joys promised.joys_of);
+            owners = rw told.ended (made-no_owners number count told.played.owners promised.owners_of);
           })
     ]
 

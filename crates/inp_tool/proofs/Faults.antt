@@ -12,7 +12,7 @@ use Rattle.inp_tool.specs.declared.outcome.Outcome.{Outcome}
 use Rattle.inp_tool.specs.declared.outcome.Outcome.TheVariants.{Usage, Unread, TooLong, Refused, NoMemory}
 use Rattle.inp_tool.specs.declared.outcome.Outcome.TheVariants.{Played, Migrated}
 use Rattle.inp_tool.specs.Edge.{Reads, Writes, KeepsInputFaults, KeepsSinkFaults}
-use Rattle.inp_tool.specs.Outcome.{status_of}
+use Rattle.inp_tool.specs.Outcome.{end_of}
 use Rattle.inp_tool.specs.RecordFile.{IsNext, RanOut, HasBadText, HasBadStream}
 use Rattle.inp_tool.specs.Promise.{AskFor, NameFile, HasCause, IsWritten, Promise, HidesNoFault}
 use Rattle.inp_tool.proofs.Records.{ran_out_behind, ran_out_after}
@@ -26,12 +26,12 @@ no_record_keeps : (r : Reads) (file : List ℕ) (refused : Refusal)
 no_record_keeps r file refused (inl h) = h.read.no_fault
 no_record_keeps r file refused (inr h) = h.bad.read.no_fault
 
-input_keeps : (words : Arguments) (r : Reads) (found : Outcome) → HasCause words r found → status_of found ≢ 3
-    → KeepsInputFaults r
+input_keeps : (words : Arguments) (r : Reads) (found : Outcome) → HasCause words r found
+    → (end_of found).status ≢ 3 → KeepsInputFaults r
 input_keeps words r Usage h other = untouched_keeps r h.untouched
 input_keeps words r Unread h other = absurd (other refl)
-input_keeps words r TooLong h other = h.too_long.too_long.no_fault
-input_keeps words r (Refused refused text) h other = no_record_keeps r h.file refused h.why
+input_keeps words r TooLong h other = h.is.is.no_fault
+input_keeps words r (Refused refused text) h other = no_record_keeps r h.0.file refused h.0.is
 input_keeps words r NoMemory (inl h) other = untouched_keeps r h
 input_keeps words r NoMemory (inr h) other = h.no_fault
 input_keeps words r (Played played text) (inl h) other = h.read.no_fault
@@ -89,44 +89,44 @@ abbrev IsTold : ℕ → Type 0
 IsTold status = (status ≡ 3) ⊎ (status ≡ 4) ⊎ (status ≡ 5)
 
 missing_told : (words : Arguments) (r : Reads) (file : List ℕ) (found : Outcome) → NameFile words file
-    → IsMissing r.files file → HasCause words r found → IsTold (status_of found)
+    → IsMissing r.files file → HasCause words r found → IsTold (end_of found).status
 missing_told words r file Usage asked missing h = absurd (refused_names_none words file h.refused asked)
 missing_told words r file Unread asked missing h = inl refl
 missing_told words r file TooLong asked missing h =
     let same = same_file words file h.file asked h.named in
     absurd
     (there r file h.file same
-    (next_found r h.file h.too_long.name h.too_long.next h.too_long.too_long.found) missing)
+    (next_found r h.file h.is.name h.is.next h.is.is.found) missing)
 missing_told words r file (Refused refused text) asked missing h =
-    let same = same_file words file h.file asked h.named in
-    absurd (there r file h.file same (text_found r h.file refused h.why) missing)
+    let same = same_file words file h.0.file asked h.0.named in
+    absurd (there r file h.0.file same (text_found r h.0.file refused h.0.is) missing)
 missing_told words r file NoMemory asked missing h = inr (inr refl)
 missing_told words r file (Played played text) asked missing (inl h) =
     let same = same_file words file h.file asked (plays_file words h.file h.history h.idle h.asked) in
-    absurd (there r file h.file same h.read.is_parsed.read.found missing)
+    absurd (there r file h.file same h.read.is.is_parsed.read.found missing)
 missing_told words r file (Played played text) asked missing (inr h) =
     absurd (made_names_none words h.number h.count file h.asked asked)
 missing_told words r file (Migrated text) asked missing h =
     let same = same_file words file h.file asked (migrates_file words h.file h.asked) in
-    absurd (there r file h.file same h.read.is_parsed.read.found missing)
+    absurd (there r file h.file same h.read.is.is_parsed.read.found missing)
 
 keeps : (words : Arguments) (r : Reads) (w : Writes) (found : Outcome) (end : End) → HasCause words r found
     → IsWritten w found end → end.status ≢ 3 → end.status ≢ 4 → KeepsInputFaults r
 keeps words r w found end cause (inl whole) no_read no_write =
-    input_keeps words r found cause (λ e. no_read (whole.ended.status ∙ e))
-keeps words r w found end cause (inr part) no_read no_write = absurd (no_write part.status)
+    input_keeps words r found cause (λ e. no_read (ap (λ (x : End). x.status) whole.ended ∙ e))
+keeps words r w found end cause (inr part) no_read no_write = absurd (no_write (rw part.ended))
 
 sink_keeps : (w : Writes) (found : Outcome) (end : End) → IsWritten w found end → end.status ≢ 4
     → KeepsSinkFaults w
 sink_keeps w found end (inl whole) other = whole.no_fault
-sink_keeps w found end (inr part) other = absurd (other part.status)
+sink_keeps w found end (inr part) other = absurd (other (rw part.ended))
 
 missing_shown : (words : Arguments) (r : Reads) (w : Writes) (found : Outcome) (end : End)
     → HasCause words r found → IsWritten w found end → (file : List ℕ) → NameFile words file
     → IsMissing r.files file → IsTold end.status
 missing_shown words r w found end cause (inl whole) file asked missing =
-    subst IsTold (sym whole.ended.status) (missing_told words r file found asked missing cause)
-missing_shown words r w found end cause (inr part) file asked missing = inr (inl part.status)
+    rw whole.ended (missing_told words r file found asked missing cause)
+missing_shown words r w found end cause (inr part) file asked missing = inr (inl (rw part.ended))
 
 -- Behind each other outcome no file was too long.
 
@@ -139,12 +139,12 @@ not_past : (r : Reads) → r.after.given ≤ INPUT_LIMIT → INPUT_LIMIT < r.aft
 not_past r within past = omega arith
 
 long_told : (words : Arguments) (r : Reads) (file : List ℕ) (found : Outcome) → NameFile words file
-    → r.after ≢ r.before → INPUT_LIMIT < r.after.given → HasCause words r found → status_of found ≡ 7
+    → r.after ≢ r.before → INPUT_LIMIT < r.after.given → HasCause words r found → (end_of found).status ≡ 7
 long_told words r file Usage asked touched past h = absurd (refused_names_none words file h.refused asked)
-long_told words r file Unread asked touched past h = absurd (not_past r h.unread.unread.within past)
+long_told words r file Unread asked touched past h = absurd (not_past r h.is.is.within past)
 long_told words r file TooLong asked touched past h = refl
 long_told words r file (Refused refused text) asked touched past h =
-    absurd (not_past r (text_within r h.file refused h.why).within past)
+    absurd (not_past r (text_within r h.0.file refused h.0.is).within past)
 long_told words r file NoMemory asked touched past (inl h) = absurd (touched h)
 long_told words r file NoMemory asked touched past (inr h) = absurd (not_past r h.within past)
 long_told words r file (Played played text) asked touched past (inl h) =
@@ -159,8 +159,8 @@ long_shown : (words : Arguments) (r : Reads) (w : Writes) (found : Outcome) (end
     → r.after ≢ r.before → INPUT_LIMIT < r.after.given
     → (end.status ≡ 7) ⊎ (end.status ≡ 4)
 long_shown words r w found end cause (inl whole) file asked touched past =
-    inl (whole.ended.status ∙ long_told words r file found asked touched past cause)
-long_shown words r w found end cause (inr part) file asked touched past = inr part.status
+    inl (rw whole.ended (long_told words r file found asked touched past cause))
+long_shown words r w found end cause (inr part) file asked touched past = inr (rw part.ended)
 
 -- the status at the end tells of a fault, of a missing file, and of one that is too long
 pub no_fault_hidden : (words : Arguments) (r : Reads) (w : Writes) (end : End) → Promise words r w end

@@ -15,7 +15,7 @@ use Rattle.inp_tool.specs.declared.no_record.NoRecord.{NoRecord}
 use Rattle.inp_tool.specs.declared.no_record.NoRecord.TheVariants.{Unread, TooLong, Refused, NoMemory}
 use Rattle.inp_tool.specs.Edge.{InputView, Reads}
 use Rattle.inp_tool.specs.Streams.{StreamFile, file_of, stream_files, events_in, HoldEvents}
-use Rattle.inp_tool.specs.RecordFile.{AreLoaded, IsAtStream}
+use Rattle.inp_tool.specs.RecordFile.{IsRead, AreLoaded, IsAtStream}
 use Rattle.inp_tool.specs.LoadedStreams.{TakesFiles, IsPassedOver, IsTaken, IsDone, CannotDo, IsLoadedTo}
 use Rattle.inp_tool.specs.LoadedStreams.{AreStreamsLoaded, CannotFinish}
 use Rattle.inp_tool.proofs.Spans.{span, AreToldAlike, are_read_on, are_read_push, are_read_length}
@@ -93,8 +93,8 @@ module _ (files : Option (List File)) (before middle after : InputView) (told : 
     (parsed mid : RecordView) (line : ℕ) where
   -- the streams that were loaded stay so
   loaded_on : (contents : List (List ℕ)) (streams : List (List Stamped))
-      → AreLoaded (span files before middle) (files_to parsed line) contents streams
-      → AreLoaded (span files before after) (files_to parsed line) contents streams
+      → AreLoaded (IsRead (span files before middle)) (files_to parsed line) contents streams
+      → AreLoaded (IsRead (span files before after)) (files_to parsed line) contents streams
   loaded_on contents streams h =
       record {
         read = are_read_on files before middle after told (files_to parsed line) contents h.read;
@@ -119,7 +119,7 @@ module _ (files : Option (List File)) (before middle after : InputView) (told : 
       let takes = takes_parsed parsed mid line [] (rw h.whole) done.takes in
       let more : files_to parsed line ≡ files_to parsed (line + 1) =
       sym (files_after parsed line [] takes ∙ append-nil (files_to parsed line)) in
-      let Q : List StreamFile → Type 0 = λ fs. AreLoaded (span files before middle) fs h.contents h.streams in
+      let Q : List StreamFile → Type 0 = λ fs. AreLoaded (IsRead (span files before middle)) fs h.contents h.streams in
       let here : P middle = record {
         contents = h.contents;
         streams = h.streams;
@@ -154,7 +154,7 @@ module _ (files : Option (List File)) (before middle after : InputView) (told : 
   taken new is h done =
       let takes = takes_parsed parsed mid line (done.stream ∷ []) (rw h.whole) done.takes in
       let Q : List StreamFile → Type 0 =
-      λ fs. AreLoaded (span files before after) fs (h.contents ++ done.bytes ∷ [])
+      λ fs. AreLoaded (IsRead (span files before after)) fs (h.contents ++ done.bytes ∷ [])
       (h.streams ++ done.stamps ∷ []) in
       let all = are_read_on files before middle after told (files_to parsed line) h.contents h.loaded.read in
       let one = is_read_from files before middle after done.stream.name done.bytes done.read.read in
@@ -234,7 +234,7 @@ all_read r parsed now line is past h =
     rw (← as_many_files parsed.lines, is.numbered) (length-range_with_len 0 (length parsed.streams)) in
     let full : length parsed.streams ≤ length h.streams =
     omega (arith, k, count, ap (λ (x : List StreamFile). length x) files) in
-    let Q : List StreamFile → Type 0 = λ fs. AreLoaded r fs h.contents h.streams in
+    let Q : List StreamFile → Type 0 = λ fs. AreLoaded (IsRead r) fs h.contents h.streams in
     record {
       contents = h.contents;
       streams = h.streams;

@@ -2,7 +2,7 @@
 use Rattle.std.proofs.Common.{◌≡◌, ◌≤◌, ℕ, zero, suc, ◌+◌, ◌*◌, ◌%◌, nat_eq, Bool, true, false, if◌then◌else◌}
 use Rattle.std.proofs.Common.{List, [], ◌∷◌, ◌++◌, map, length, refl, sym, ap, arith, Option, Some, None}
 use Rattle.std.specs.Prelude.{◌&&◌, codes, nat_le, filter, slice_get, flat_map, option_and_then}
-use Rattle.std.specs.List.{enumerate_from, range_with_len}
+use Rattle.std.specs.List.{enumerate_from, list_any, range_with_len}
 use Rattle.std.proofs.lemmas.Bool.{ne_eqb, cond_both, and_parts, leb-true}
 use Rattle.std.proofs.lemmas.Option.{option_and_then_some, cond_some}
 use Rattle.inp_args.specs.declared.request.Request.TheVariants.{Make}
@@ -29,7 +29,7 @@ use Rattle.inp_script.specs.declared.run.DeviceEnds.{DeviceEnds}
 use Rattle.inp_script.specs.declared.run.Played.{Played}
 use Rattle.inp_script.specs.declared.run.Run.{Run}
 use Rattle.inp_script.specs.Ended.{ended_as, ended_of, ended_run, jobs_among, played_of}
-use Rattle.inp_script.specs.Job.{ActorView, last_stop}
+use Rattle.inp_script.specs.Job.{ActorView, JobView, last_stop}
 use Rattle.inp_script.specs.Runs.{AreJoysOf, AreOwnersOf}
 use Rattle.inp_runs.specs.Play.{Stage, first_stage, after_lines, run_of, runs_of, play, IsPlay}
 use Rattle.inp_play.proofs.Follows.{HasQueries}
@@ -37,7 +37,7 @@ use Rattle.inp_play.proofs.Growth.{IsBound, IsShort, Adds, event-bound, open-bou
 use Rattle.inp_play.proofs.Growth.{adds-line, adds-more, adds-append}
 use Rattle.inp_runs.proofs.Lists.{IsImage, option_map-some}
 use Rattle.inp_play.proofs.OwnQueues.{quiet-keys, quiet-slots}
-use Rattle.inp_tool.specs.Outcome.{is_stopped_full, has_full_job, has_full_run, has_full}
+use Rattle.inp_tool.specs.Outcome.{is_stopped_full, has_full}
 use Rattle.inp_tool.proofs.MadeAlone.{made-no_joys, made-no_owners}
 
 -- The device
@@ -172,6 +172,13 @@ no_full_end a none = by_role a.role
     by_role : (role : Role) → is_full_end (ended_as role a) ≡ false
     by_role Owner = refl
     by_role role = goes_on
+
+-- some of these jobs did, and some of the runs' jobs
+abbrev has_full_job : List JobView → Bool
+has_full_job jobs = list_any (λ (job : JobView). is_stopped_full job.stop) jobs
+
+abbrev has_full_run : List Run → Bool
+has_full_run runs = list_any (λ (run : Run). has_full_job run.jobs) runs
 
 -- one more that did not
 no_more_full : (ended : Ended) (ends : List Ended) → is_full_end ended ≡ false

@@ -17,7 +17,8 @@ same_text r streams = refl
 
 -- it means the record of the lines that were read, in version 2
 pub means_upgraded : (r : Reads) (file text : List ℕ) (recorded : RecordView) (h : HasRecord r file recorded)
-    → text ≡ record_text (upgraded recorded) → meaning text ≡ Ok (upgraded h.parsed)
+    → text ≡ record_text (upgraded recorded) → meaning text ≡ Ok (upgraded h.is.parsed)
 means_upgraded r file text recorded h says =
-    let same : text ≡ record_text (upgraded h.parsed) = rw (says, h.whole) (same_text h.parsed h.streams) in
-    ap meaning same ∙ reads_again h.text h.parsed h.is_parsed.means
+    let same : text ≡ record_text (upgraded h.is.parsed) =
+    rw (says, h.is.whole) (same_text h.is.parsed h.is.streams) in
+    ap meaning same ∙ reads_again h.is.text h.is.parsed h.is.is_parsed.means

@@ -15,7 +15,7 @@ use Rattle.inp_tool.specs.declared.no_record.NoRecord.{NoRecord}
 use Rattle.inp_tool.specs.declared.no_record.NoRecord.TheVariants.{Unread, TooLong, Refused, NoMemory}
 use Rattle.inp_tool.specs.Edge.{InputView, Reads}
 use Rattle.inp_tool.specs.Streams.{StreamFile, file_of, stream_files}
-use Rattle.inp_tool.specs.RecordFile.{IsLast, IsReadLast, IsUnread, IsTooLong, RanOut, CannotRead, AreRead}
+use Rattle.inp_tool.specs.RecordFile.{IsRead, IsLast, IsReadLast, IsUnread, IsTooLong, RanOut, CannotRead, HaveContents}
 use Rattle.inp_tool.specs.RecordFile.{IsParsed, IsAtStream, IsNextStream, HasRecord, HasNoRecord}
 use Rattle.inp_tool.specs.RecordFile.{last_contents}
 use Rattle.inp_tool.specs.LoadedStreams.{TakesFiles, IsDone, CannotDo, IsStream, IsNoStream, IsLastOf}
@@ -43,7 +43,7 @@ ran_out_behind r name bytes h =
     record { no_fault = h.no_fault; within = omega (arith, h.last.counted, h.read.within) }
 
 last_within : (r : Reads) (first : List ℕ) (streams : List StreamFile) (contents : List (List ℕ))
-    → length first ≤ INPUT_LIMIT → AreRead r streams contents
+    → length first ≤ INPUT_LIMIT → HaveContents (IsRead r) streams contents
     → length (last_contents first contents) ≤ INPUT_LIMIT
 last_within r first [] [] h are = h
 last_within r first (stream ∷ streams) (next ∷ contents) h are =
@@ -112,13 +112,14 @@ line_unread r text old line stream name NoMemory takes same h = h
 pub ran_out_after : (r : Reads) (file : List ℕ) (recorded : RecordView) → HasRecord r file recorded → RanOut r
 ran_out_after r file recorded h =
     let last =
-    last_within r h.text (stream_files h.parsed.lines) h.contents h.is_parsed.read.within h.loaded.read in
+    last_within r h.is.text (stream_files h.is.parsed.lines) h.is.contents h.is.is_parsed.read.within
+    h.is.loaded.read in
     record { no_fault = h.no_fault; within = omega (arith, h.last.counted, last) }
 
 module _ (files : Option (List File)) (before middle after : InputView) (told : AreToldAlike middle after)
     (file text : List ℕ) (first : IsReadLast (span files before middle) file text) where
   is_parsed : (parsed : RecordView) → meaning text ≡ Ok parsed
-      → IsParsed (span files before after) file text parsed
+      → IsParsed (IsRead (span files before after)) file text parsed
   is_parsed parsed means =
       record { read = is_read_on files before middle after told file text first.read; means = means }
 
@@ -132,18 +133,20 @@ module _ (files : Option (List File)) (before middle after : InputView) (told : 
   pub has_record : (recorded : RecordView) → HasParts (span files middle after) text recorded
       → HasRecord (span files before after) file recorded
   has_record recorded h = record {
-    text = text;
-    parsed = h.parsed;
-    is_parsed = is_parsed h.parsed h.means;
-    contents = h.done.contents;
-    streams = h.done.streams;
-    loaded = record {
-      read =
-          are_read_from files before middle after
-          (stream_files h.parsed.lines) h.done.contents h.done.loaded.read;
-      stamps = h.done.loaded.stamps;
+    is = record {
+      text = text;
+      parsed = h.parsed;
+      is_parsed = is_parsed h.parsed h.means;
+      contents = h.done.contents;
+      streams = h.done.streams;
+      loaded = record {
+        read =
+            are_read_from files before middle after
+            (stream_files h.parsed.lines) h.done.contents h.done.loaded.read;
+        stamps = h.done.loaded.stamps;
+      };
+      whole = h.done.whole;
     };
-    whole = h.done.whole;
     last = last_read h.done.contents h.done.last;
     no_fault = h.done.no_fault ∙ first.no_fault;
   }
@@ -181,14 +184,14 @@ module _ (files : Option (List File)) (before middle after : InputView) (told : 
       record {
         name = (c.1).name;
         next = inr (next_stream h.parsed h.means c.0 c.1 c.2);
-        unread = is_unread_from files before middle after (c.1).name first.no_fault c.3;
+        is = is_unread_from files before middle after (c.1).name first.no_fault c.3;
       }
   no_streams TooLong h =
       let c = h.cannot in
       record {
         name = (c.1).name;
         next = inr (next_stream h.parsed h.means c.0 c.1 c.2);
-        too_long = is_too_long_from files before middle after (c.1).name first.no_fault c.3;
+        is = is_too_long_from files before middle after (c.1).name first.no_fault c.3;
       }
   no_streams (Refused refused) h =
       let bad = h.cannot in

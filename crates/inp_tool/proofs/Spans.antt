@@ -4,7 +4,7 @@ use Rattle.std.specs.Prelude.{is_some, IsTrue}
 use Rattle.inp_edge.specs.File.{File}
 use Rattle.inp_tool.specs.Edge.{InputView, Reads}
 use Rattle.inp_tool.specs.Streams.{StreamFile}
-use Rattle.inp_tool.specs.RecordFile.{IsRead, IsLast, IsReadLast, IsUnread, IsTooLong, RanOut, AreRead}
+use Rattle.inp_tool.specs.RecordFile.{IsRead, IsLast, IsReadLast, IsUnread, IsTooLong, RanOut, HaveContents}
 use Rattle.inp_tool.specs.RecordFile.{last_contents}
 use Rattle.inp_tool.specs.LoadedStreams.{IsLastOf}
 
@@ -29,8 +29,8 @@ module _ (files : Option (List File)) (before middle after : InputView)
 
   -- each of the files stays read
   pub are_read_on : (streams : List StreamFile) (contents : List (List ℕ))
-      → AreRead (span files before middle) streams contents
-      → AreRead (span files before after) streams contents
+      → HaveContents (IsRead (span files before middle)) streams contents
+      → HaveContents (IsRead (span files before after)) streams contents
   are_read_on [] [] h = tt
   are_read_on (file ∷ streams) (bytes ∷ contents) h =
       (is_read_on file.name bytes h.0, are_read_on streams contents h.1)
@@ -44,8 +44,8 @@ is_read_from files before middle after name bytes h =
 
 -- what is said of the files is of what is there afterwards, and not of what was before
 pub are_read_from : (files : Option (List File)) (before middle after : InputView) (streams : List StreamFile)
-    (contents : List (List ℕ)) → AreRead (span files middle after) streams contents
-    → AreRead (span files before after) streams contents
+    (contents : List (List ℕ)) → HaveContents (IsRead (span files middle after)) streams contents
+    → HaveContents (IsRead (span files before after)) streams contents
 are_read_from files before middle after [] [] h = tt
 are_read_from files before middle after (file ∷ streams) (bytes ∷ contents) h = (
   is_read_from files before middle after file.name bytes h.0,
@@ -55,8 +55,8 @@ are_read_from files before middle after streams contents h = absurd h
 
 -- the file behind the others was read too
 pub are_read_push : (r : Reads) (streams : List StreamFile) (contents : List (List ℕ)) (file : StreamFile)
-    (bytes : List ℕ) → AreRead r streams contents → IsRead r file.name bytes
-    → AreRead r (streams ++ file ∷ []) (contents ++ bytes ∷ [])
+    (bytes : List ℕ) → HaveContents (IsRead r) streams contents → IsRead r file.name bytes
+    → HaveContents (IsRead r) (streams ++ file ∷ []) (contents ++ bytes ∷ [])
 are_read_push r [] [] file bytes h one = (one, tt)
 are_read_push r (n ∷ streams) (b ∷ contents) file bytes h one =
     (h.0, are_read_push r streams contents file bytes h.1 one)
@@ -64,7 +64,7 @@ are_read_push r streams contents file bytes h one = absurd h
 
 -- each stream that was read has its bytes, so there are as many of both
 pub are_read_length : (r : Reads) (streams : List StreamFile) (contents : List (List ℕ))
-    → AreRead r streams contents → length streams ≡ length contents
+    → HaveContents (IsRead r) streams contents → length streams ≡ length contents
 are_read_length r [] [] h = refl
 are_read_length r (n ∷ streams) (b ∷ contents) h = ap suc (are_read_length r streams contents h.1)
 are_read_length r streams contents h = absurd h

@@ -1,5 +1,5 @@
 -- When the program's one call writes its report (docs/PROMISES.md).
-use Rattle.std.specs.Prelude.{ℕ, ◌≡◌, ◌≤◌, ◌<◌, ◌⊎◌, Bool, List, [], ◌∷◌, length, Option, Some, None, IsSome, Ok}
+use Rattle.std.specs.Prelude.{ℕ, ◌≡◌, ◌≤◌, ◌<◌, ◌⊎◌, Bool, List, [], ◌∷◌, length, Option, Some, None, IsSome}
 use Rattle.inp_edge.specs.Count.{LAST}
 use Rattle.inp_edge.specs.File.{File, bytes_of}
 use Rattle.inp_edge.specs.Sink.{Appends}
@@ -7,18 +7,16 @@ use Rattle.inp_edge.specs.declared.input.TheConstants.{INPUT_LIMIT}
 use Rattle.inp_args.specs.declared.request.Request.TheVariants.{Migrate, Make}
 use Rattle.inp_args.specs.Request.{Arguments, requested}
 use Rattle.inp_make.specs.Generated.{generated}
-use Rattle.inp_model.specs.declared.stamped.Stamped.{Stamped}
 use Rattle.inp_actors.specs.Record.{RecordView}
 use Rattle.inp_record.specs.canon.Text.{record_text}
-use Rattle.inp_record.specs.Meaning.{meaning}
 use Rattle.inp_script.specs.declared.run.Played.{Played}
 use Rattle.inp_tool.specs.Upgrade.{upgraded}
 use Rattle.inp_report.specs.Summary.{summary}
 use Rattle.inp_report.specs.Whole.{whole_report}
 use Rattle.inp_tool.specs.declared.end.End.{End}
 use Rattle.inp_tool.specs.Edge.{Reads, Writes}
-use Rattle.inp_tool.specs.Streams.{StreamFile, stream_files, HoldEvents}
-use Rattle.inp_tool.specs.Outcome.{played_status}
+use Rattle.inp_tool.specs.Outcome.{played_status, no_play, end_with}
+use Rattle.inp_tool.specs.RecordFile.{IsRecorded}
 use Rattle.inp_tool.specs.Promise.{AskFor, IsResultOf}
 
 -- a count that can rise and did not
@@ -30,39 +28,21 @@ pub record IsThere (files : List File) (name bytes : List ℕ) : Type 0 where
   pub file : bytes_of files name ≡ Some bytes
   pub within : length bytes ≤ INPUT_LIMIT
 
--- these files of streams are there, one for each content
-abbrev pub AreThere : List File → List StreamFile → List (List ℕ) → Type 0
-AreThere files [] [] = Unit {0}
-AreThere files (stream ∷ streams) (bytes ∷ contents) = IsThere files stream.name bytes × AreThere files streams contents
-AreThere files [] (bytes ∷ contents) = ⊥
-AreThere files (stream ∷ streams) [] = ⊥
-
 -- FILE and the files of its stream lines are there, in an input that tells their bytes, and are this record with its
 -- streams.
 pub record IsReadable (r : Reads) (file : List ℕ) (recorded : RecordView) : Type 0 where
   pub files : List File
   pub told_files : r.files ≡ Some files
   pub told_bytes : IsSome r.before.left
-  pub text : List ℕ
-  pub there : IsThere files file text
-  pub parsed : RecordView
-  pub means : meaning text ≡ Ok parsed
-  pub contents : List (List ℕ)
-  pub streams : List (List Stamped)
-  pub are_there : AreThere files (stream_files parsed.lines) contents
-  pub stamps : HoldEvents (stream_files parsed.lines) contents streams
-  pub whole : recorded ≡ record parsed { streams = streams }
-
--- the result of a record, as the end has it
-abbrev pub played_by : End → Played
-played_by end = record { runs = end.runs; joys = end.joys; owners = end.owners }
+  pub there : IsRecorded (IsThere files) file recorded
 
 -- The text that tells the result of this record was written whole. The status is 6 where a job stopped since
 -- a history was full, or an owner since its calls were as many as may be kept, and else 0.
 pub record IsTold (w : Writes) (idle : Option ℕ) (recorded : RecordView) (text : Played → List ℕ) (end : End) : Type 0 where
-  pub came : IsResultOf idle recorded (played_by end)
-  pub status : end.status ≡ played_status (played_by end)
-  pub written : Appends (text (played_by end)) w.before.written w.after.written
+  pub played : Played
+  pub came : IsResultOf idle recorded played
+  pub ended : end ≡ end_with (played_status played) None played
+  pub written : Appends (text played) w.before.written w.after.written
 
 -- the summary of a record that was made
 abbrev pub made_summary : ℕ → ℕ → Played → List ℕ
@@ -78,10 +58,7 @@ pub record IsToldWhole (w : Writes) (number count : ℕ) (end : End) : Type 0 wh
 
 -- The canonical text of this record in version 2 was written whole, and nothing was played.
 pub record IsRewritten (w : Writes) (recorded : RecordView) (end : End) : Type 0 where
-  pub status : end.status ≡ 0
-  pub runs : end.runs ≡ []
-  pub joys : end.joys ≡ []
-  pub owners : end.owners ≡ []
+  pub ended : end ≡ end_with 0 None no_play
   pub written : Appends (record_text (upgraded recorded)) w.before.written w.after.written
 
 -- A record that is there, or a record to be made, and no fault: its report, its text in version 2 or its

@@ -13,7 +13,7 @@ use Rattle.inp_tool.specs.declared.no_record.NoRecord.{NoRecord}
 use Rattle.inp_tool.specs.declared.no_record.NoRecord.TheVariants.{Unread, TooLong, Refused as IsRefused, NoMemory}
 use Rattle.inp_tool.specs.Edge.{Reads, KeepsInputFaults}
 use Rattle.inp_tool.specs.Streams.{StreamFile, file_of, stream_files}
-use Rattle.inp_tool.specs.RecordFile.{IsUnread, IsTooLong, RanOut, IsReadLast, IsLast, AreLoaded, IsAtStream, IsBadStream, last_contents}
+use Rattle.inp_tool.specs.RecordFile.{IsRead, IsUnread, IsTooLong, RanOut, IsReadLast, IsLast, AreLoaded, IsAtStream, IsBadStream, last_contents}
 
 -- an action line names these files: one, or none where it takes no stream
 abbrev pub TakesFiles : RecordView → ℕ → List StreamFile → Type 0
@@ -64,7 +64,7 @@ IsLastOf r (bytes ∷ contents) = IsLast r (last_contents bytes contents)
 pub record IsLoadedTo (r : Reads) (parsed : RecordView) (line : ℕ) (now : RecordView) : Type 0 where
   pub contents : List (List ℕ)
   pub streams : List (List Stamped)
-  pub loaded : AreLoaded r (stream_files (take line parsed.lines)) contents streams
+  pub loaded : AreLoaded (IsRead r) (stream_files (take line parsed.lines)) contents streams
   pub whole : now ≡ record parsed { streams = streams ++ drop (length streams) parsed.streams }
   pub last : IsLastOf r contents
   pub no_fault : KeepsInputFaults r
@@ -73,7 +73,7 @@ pub record IsLoadedTo (r : Reads) (parsed : RecordView) (line : ℕ) (now : Reco
 pub record AreStreamsLoaded (r : Reads) (parsed now : RecordView) : Type 0 where
   pub contents : List (List ℕ)
   pub streams : List (List Stamped)
-  pub loaded : AreLoaded r (stream_files parsed.lines) contents streams
+  pub loaded : AreLoaded (IsRead r) (stream_files parsed.lines) contents streams
   pub whole : now ≡ record parsed { streams = streams }
   pub last : IsLastOf r contents
   pub no_fault : KeepsInputFaults r

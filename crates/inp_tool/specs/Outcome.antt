@@ -10,6 +10,7 @@ use Rattle.inp_script.specs.declared.run.Played.{Played}
 use Rattle.inp_script.specs.declared.run.Run.{Run}
 use Rattle.inp_script.specs.Job.{JobView, JoyJobView, OwnerView}
 use Rattle.inp_report.specs.Words.{LINE_FEED}
+use Rattle.inp_tool.specs.declared.end.End.{End}
 use Rattle.inp_tool.specs.declared.outcome.Outcome.{Outcome}
 use Rattle.inp_tool.specs.declared.outcome.Outcome.TheVariants.{Usage, Unread, TooLong, Refused as IsRefused, NoMemory, Played as WasPlayed, Migrated}
 
@@ -27,27 +28,17 @@ abbrev pub refused_text : Refused → List ℕ
 refused_text refused =
     codes "inputplay: line " ++ (decimal refused.line ++ (codes ": " ++ (cause_text refused.cause ++ LINE_FEED)))
 
--- a job stopped since the history was full
+-- it tells of a list that was full
 abbrev pub is_stopped_full : Stop → Bool
 is_stopped_full (Full at) = true
 is_stopped_full _ = false
 
-abbrev pub has_full_job : List JobView → Bool
-has_full_job jobs = list_any (λ (job : JobView). is_stopped_full job.stop) jobs
-
-abbrev pub has_full_run : List Run → Bool
-has_full_run runs = list_any (λ (run : Run). has_full_job run.jobs) runs
-
--- a joystick's job did
-abbrev pub has_full_joy : List JoyJobView → Bool
-has_full_joy joys = list_any (λ (joy : JoyJobView). is_stopped_full joy.stop) joys
-
--- an owner stopped since its calls were as many as may be kept
-abbrev pub has_full_owner : List OwnerView → Bool
-has_full_owner owners = list_any (λ (owner : OwnerView). is_stopped_full owner.stop) owners
-
+-- a job stopped since a history was full, or an owner since its calls were as many as may be kept
 abbrev pub has_full : Played → Bool
-has_full played = has_full_run played.runs || has_full_joy played.joys || has_full_owner played.owners
+has_full played =
+    list_any (λ (run : Run). list_any (λ (job : JobView). is_stopped_full job.stop) run.jobs) played.runs
+    || list_any (λ (joy : JoyJobView). is_stopped_full joy.stop) played.joys
+    || list_any (λ (owner : OwnerView). is_stopped_full owner.stop) played.owners
 
 -- the status where a report or a summary of the result of a record was written
 abbrev pub played_status : Played → ℕ
@@ -66,30 +57,17 @@ text_of NoMemory = no_memory_text
 text_of (WasPlayed played text) = text.items
 text_of (Migrated text) = text.items
 
-abbrev pub status_of : Outcome → ℕ
-status_of Usage = 2
-status_of Unread = 3
-status_of TooLong = 7
-status_of (IsRefused refused text) = 1
-status_of NoMemory = 5
-status_of (WasPlayed played text) = played_status played
-status_of (Migrated text) = 0
+-- an end with this status, the line that is refused and why, and these results
+abbrev pub end_with : ℕ → Option Refused → Played → End
+end_with status refused played =
+    record { status = status; refused = refused; runs = played.runs; joys = played.joys; owners = played.owners }
 
-abbrev pub refused_of : Outcome → Option Refused
-refused_of Usage = None
-refused_of Unread = None
-refused_of TooLong = None
-refused_of (IsRefused refused text) = Some refused
-refused_of NoMemory = None
-refused_of (WasPlayed played text) = None
-refused_of (Migrated text) = None
-
--- the result of the record
-abbrev pub played_in : Outcome → Played
-played_in Usage = no_play
-played_in Unread = no_play
-played_in TooLong = no_play
-played_in (IsRefused refused text) = no_play
-played_in NoMemory = no_play
-played_in (WasPlayed played text) = played
-played_in (Migrated text) = no_play
+-- the end where the text of an outcome was written whole
+abbrev pub end_of : Outcome → End
+end_of Usage = end_with 2 None no_play
+end_of Unread = end_with 3 None no_play
+end_of TooLong = end_with 7 None no_play
+end_of (IsRefused refused text) = end_with 1 (Some refused) no_play
+end_of NoMemory = end_with 5 None no_play
+end_of (WasPlayed played text) = end_with (played_status played) None played
+end_of (Migrated text) = end_with 0 None no_play

@@ -24,8 +24,8 @@ use Rattle.inp_tool.specs.declared.no_record.NoRecord.{NoRecord}
 use Rattle.inp_tool.specs.declared.outcome.Outcome.{Outcome}
 use Rattle.inp_tool.specs.declared.outcome.Outcome.TheVariants.{Usage, Unread, TooLong, Refused as IsRefused, NoMemory, Played as WasPlayed, Migrated}
 use Rattle.inp_tool.specs.Edge.{Reads, Writes, KeepsInputFaults, KeepsSinkFaults}
-use Rattle.inp_tool.specs.Outcome.{refused_text, text_of, status_of, refused_of, played_in}
-use Rattle.inp_tool.specs.RecordFile.{HasUnread, HasTooLong, HasBadText, HasBadStream, HasRecord, HasNoRecord, RanOut}
+use Rattle.inp_tool.specs.Outcome.{refused_text, text_of, end_of}
+use Rattle.inp_tool.specs.RecordFile.{IsUnread, IsTooLong, HasNext, HasBadText, HasBadStream, HasRecord, HasNoRecord, RanOut}
 
 -- The words ask for the record in this file, with the history or without. With a number each job is to have a
 -- thread, and waits through so many answers Again in a row.
@@ -43,24 +43,15 @@ pub record IsUsage (words : Arguments) (r : Reads) : Type 0 where
   pub refused : requested words ≡ None
   pub untouched : r.after ≡ r.before
 
--- FILE was not read, or the file of one of its stream lines
-pub record IsUnread (words : Arguments) (r : Reads) : Type 0 where
+-- the words name a file, and it is such a one
+pub record NameSuch (words : Arguments) (Is : List ℕ → Type 0) : Type 0 where
   pub file : List ℕ
   pub named : NameFile words file
-  pub unread : HasUnread r file
-
--- FILE is too long, or the file of one of its stream lines
-pub record IsTooLong (words : Arguments) (r : Reads) : Type 0 where
-  pub file : List ℕ
-  pub named : NameFile words file
-  pub too_long : HasTooLong r file
+  pub is : Is file
 
 -- FILE was read, and is no record: by its text, or by a stream where the text is right and the streams before it are
-pub record IsNoRecord (words : Arguments) (r : Reads) (refused : Refused) (text : List ℕ) : Type 0 where
-  pub file : List ℕ
-  pub named : NameFile words file
-  pub why : HasBadText r file refused ⊎ HasBadStream r file refused
-  pub says : text ≡ refused_text refused
+abbrev pub IsNoRecord : Reads → Refused → List ℕ → Type 0
+IsNoRecord r refused file = HasBadText r file refused ⊎ HasBadStream r file refused
 
 -- memory ran out, and nothing was at fault before: the input is as it was, or no file was too long
 abbrev pub IsOutOfMemory : Reads → Type 0
@@ -94,7 +85,7 @@ pub record IsMigrated (words : Arguments) (r : Reads) (text : List ℕ) : Type 0
   pub recorded : RecordView
   pub read : HasRecord r file recorded
   pub says : text ≡ record_text (upgraded recorded)
-  pub means : meaning text ≡ Ok (upgraded read.parsed)
+  pub means : meaning text ≡ Ok (upgraded read.is.parsed)
 
 -- The record was made from two numbers and played, the text is its summary, and the input is as it was. It has no
 -- joystick and no owner.
@@ -108,12 +99,13 @@ pub record IsMade (words : Arguments) (r : Reads) (played : Played) (text : List
   pub joys : played.joys ≡ []
   pub owners : played.owners ≡ []
 
--- Each outcome has its cause. Memory may run out anywhere, but never in place of a fault.
+-- Each outcome has its cause: where a file was not read, or is too long, it is FILE or that of a stream line. Memory may
+-- run out anywhere, but never in place of a fault.
 abbrev pub HasCause : Arguments → Reads → Outcome → Type 0
 HasCause words r Usage = IsUsage words r
-HasCause words r Unread = IsUnread words r
-HasCause words r TooLong = IsTooLong words r
-HasCause words r (IsRefused refused text) = IsNoRecord words r refused (string_bytes text)
+HasCause words r Unread = NameSuch words (λ file. HasNext r file (IsUnread r))
+HasCause words r TooLong = NameSuch words (λ file. HasNext r file (IsTooLong r))
+HasCause words r (IsRefused refused text) = NameSuch words (IsNoRecord r refused) × (string_bytes text ≡ refused_text refused)
 HasCause words r NoMemory = IsOutOfMemory r
 HasCause words r (WasPlayed played text) = IsPlayed words r played text.items ⊎ IsMade words r played text.items
 HasCause words r (Migrated text) = IsMigrated words r text.items
@@ -122,29 +114,17 @@ HasCause words r (Migrated text) = IsMigrated words r text.items
 abbrev pub IsOutcomeOf : NoRecord → Outcome → Type 0
 IsOutcomeOf why found = (words : Arguments) (r : Reads) (file : List ℕ) → NameFile words file → HasNoRecord r file why → HasCause words r found
 
--- the status of an outcome whose text was written, with what goes with it
-pub record IsEnd (found : Outcome) (end : End) : Type 0 where
-  pub status : end.status ≡ status_of found
-  pub refused : end.refused ≡ refused_of found
-  pub runs : end.runs ≡ (played_in found).runs
-  pub joys : end.joys ≡ (played_in found).joys
-  pub owners : end.owners ≡ (played_in found).owners
-
 -- the text of an outcome was written whole, and the end is that of the outcome
 pub record IsWrittenWhole (w : Writes) (found : Outcome) (end : End) : Type 0 where
   pub no_fault : KeepsSinkFaults w
   pub written : Appends (text_of found) w.before.written w.after.written
-  pub ended : IsEnd found end
+  pub ended : end ≡ end_of found
 
 -- the sink was at fault, and a front part of the text was written, and not all of it
 pub record IsWrittenInPart (w : Writes) (found : Outcome) (end : End) : Type 0 where
   pub fault : RoseUnlessSaturated w.before.faults w.after.faults
   pub written : IsCutOff (text_of found) w.before.written w.after.written
-  pub status : end.status ≡ 4
-  pub refused : end.refused ≡ None
-  pub runs : end.runs ≡ (played_in found).runs
-  pub joys : end.joys ≡ (played_in found).joys
-  pub owners : end.owners ≡ (played_in found).owners
+  pub ended : end ≡ record (end_of found) { status = 4; refused = None }
 
 abbrev pub IsWritten : Writes → Outcome → End → Type 0
 IsWritten w found end = IsWrittenWhole w found end ⊎ IsWrittenInPart w found end

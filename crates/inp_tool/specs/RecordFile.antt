@@ -58,35 +58,34 @@ CannotRead r name TooLong = IsTooLong r name
 CannotRead r name (IsRefused refused) = ⊥
 CannotRead r name NoMemory = RanOut r
 
--- these files were read, one for each content
-abbrev pub AreRead : Reads → List StreamFile → List (List ℕ) → Type 0
-AreRead r [] [] = Unit {0}
-AreRead r (file ∷ files) (bytes ∷ contents) = IsRead r file.name bytes × AreRead r files contents
-AreRead r [] (bytes ∷ contents) = ⊥
-AreRead r (file ∷ files) [] = ⊥
+-- each of these files has the content beside it, by what is said of a name and its bytes
+abbrev pub HaveContents : (List ℕ → List ℕ → Type 0) → List StreamFile → List (List ℕ) → Type 0
+HaveContents Has [] [] = Unit {0}
+HaveContents Has (file ∷ files) (bytes ∷ contents) = Has file.name bytes × HaveContents Has files contents
+HaveContents Has _ _ = ⊥
 
--- These files were read, and these are their contents and the events that they hold.
-pub record AreLoaded (r : Reads) (files : List StreamFile) (contents : List (List ℕ)) (streams : List (List Stamped)) : Type 0 where
-  pub read : AreRead r files contents
+-- These files have these contents, which hold these events.
+pub record AreLoaded (Has : List ℕ → List ℕ → Type 0) (files : List StreamFile) (contents : List (List ℕ)) (streams : List (List Stamped)) : Type 0 where
+  pub read : HaveContents Has files contents
   pub stamps : HoldEvents files contents streams
 
--- the file was read, and its text is a record, whose streams are still empty
-pub record IsParsed (r : Reads) (file text : List ℕ) (parsed : RecordView) : Type 0 where
-  pub read : IsRead r file text
+-- the file has this text, which is a record, whose streams are still empty
+pub record IsParsed (Has : List ℕ → List ℕ → Type 0) (file text : List ℕ) (parsed : RecordView) : Type 0 where
+  pub read : Has file text
   pub means : meaning text ≡ Ok parsed
 
 -- An action line takes this file as its stream, and the streams of the lines before it are loaded.
 pub record IsAtStream (r : Reads) (parsed : RecordView) (line : ℕ) (stream : StreamFile) : Type 0 where
   pub contents : List (List ℕ)
   pub streams : List (List Stamped)
-  pub loaded : AreLoaded r (stream_files (take line parsed.lines)) contents streams
+  pub loaded : AreLoaded (IsRead r) (stream_files (take line parsed.lines)) contents streams
   pub here : option_map (λ (l : Line). file_of l.command) (slice_get parsed.lines line) ≡ Some (stream ∷ [])
 
 -- the next file to be read is that of a stream line
 pub record IsNextStream (r : Reads) (file name : List ℕ) : Type 0 where
   pub text : List ℕ
   pub parsed : RecordView
-  pub is_parsed : IsParsed r file text parsed
+  pub is_parsed : IsParsed (IsRead r) file text parsed
   pub line : ℕ
   pub stream : StreamFile
   pub at : IsAtStream r parsed line stream
@@ -96,17 +95,11 @@ pub record IsNextStream (r : Reads) (file name : List ℕ) : Type 0 where
 abbrev pub IsNext : Reads → List ℕ → List ℕ → Type 0
 IsNext r file name = (name ≡ file) ⊎ IsNextStream r file name
 
--- the next file was not read
-pub record HasUnread (r : Reads) (file : List ℕ) : Type 0 where
+-- the next file to be read is such a one
+pub record HasNext (r : Reads) (file : List ℕ) (Is : List ℕ → Type 0) : Type 0 where
   pub name : List ℕ
   pub next : IsNext r file name
-  pub unread : IsUnread r name
-
--- the next file is too long
-pub record HasTooLong (r : Reads) (file : List ℕ) : Type 0 where
-  pub name : List ℕ
-  pub next : IsNext r file name
-  pub too_long : IsTooLong r name
+  pub is : Is name
 
 -- FILE was read, and its text is no record, by a line and its cause that the text alone decides
 pub record HasBadText (r : Reads) (file : List ℕ) (refused : Refused) : Type 0 where
@@ -128,13 +121,13 @@ pub record IsBadStream (r : Reads) (text : List ℕ) (parsed : RecordView) (refu
 pub record HasBadStream (r : Reads) (file : List ℕ) (refused : Refused) : Type 0 where
   pub text : List ℕ
   pub parsed : RecordView
-  pub is_parsed : IsParsed r file text parsed
+  pub is_parsed : IsParsed (IsRead r) file text parsed
   pub bad : IsBadStream r text parsed refused
 
 -- why FILE gave no record
 abbrev pub HasNoRecord : Reads → List ℕ → NoRecord → Type 0
-HasNoRecord r file Unread = HasUnread r file
-HasNoRecord r file TooLong = HasTooLong r file
+HasNoRecord r file Unread = HasNext r file (IsUnread r)
+HasNoRecord r file TooLong = HasNext r file (IsTooLong r)
 HasNoRecord r file (IsRefused refused) = HasBadText r file refused ⊎ HasBadStream r file refused
 HasNoRecord r file NoMemory = RanOut r
 
@@ -143,15 +136,18 @@ abbrev pub last_contents : List ℕ → List (List ℕ) → List ℕ
 last_contents bytes [] = bytes
 last_contents bytes (next ∷ contents) = last_contents next contents
 
--- FILE and the files of its stream lines were read, each to its end, and no call was at fault. The text of FILE is a
--- record, the contents of the other files are its streams, and this is the record with its streams.
-pub record HasRecord (r : Reads) (file : List ℕ) (recorded : RecordView) : Type 0 where
+-- FILE and the files of its stream lines have contents, and those are this record with its streams.
+pub record IsRecorded (Has : List ℕ → List ℕ → Type 0) (file : List ℕ) (recorded : RecordView) : Type 0 where
   pub text : List ℕ
   pub parsed : RecordView
-  pub is_parsed : IsParsed r file text parsed
+  pub is_parsed : IsParsed Has file text parsed
   pub contents : List (List ℕ)
   pub streams : List (List Stamped)
-  pub loaded : AreLoaded r (stream_files parsed.lines) contents streams
+  pub loaded : AreLoaded Has (stream_files parsed.lines) contents streams
   pub whole : recorded ≡ record parsed { streams = streams }
-  pub last : IsLast r (last_contents text contents)
+
+-- The record was read with its streams, each file to its end, and no call was at fault.
+pub record HasRecord (r : Reads) (file : List ℕ) (recorded : RecordView) : Type 0 where
+  pub is : IsRecorded (IsRead r) file recorded
+  pub last : IsLast r (last_contents is.text is.contents)
   pub no_fault : KeepsInputFaults r

@@ -3,7 +3,10 @@ ghost use Rattle.std.specs.Prelude.{◌≡◌, ◌≤◌, [], IfOk, IfSome, None
 ghost use Rattle.inp_make.specs.Generated.{generated};
 ghost use Rattle.inp_report.specs.Summary.{summary};
 ghost use Rattle.inp_report.specs.Whole.{whole_report};
-ghost use Rattle.inp_tool.specs.Outcome.{has_full, has_full_run, has_full_job, has_full_joy, has_full_owner, is_stopped_full};
+ghost use Rattle.std.specs.List.{list_any};
+ghost use Rattle.inp_script.specs.declared.run.Run.{Run};
+ghost use Rattle.inp_script.specs.Job.{JobView, JoyJobView, OwnerView};
+ghost use Rattle.inp_tool.specs.Outcome.{has_full, is_stopped_full};
 ghost use Rattle.inp_tool.specs.Promise.{IsResultOf};
 
 use inp_edge::Gate;
@@ -83,14 +86,15 @@ pub(crate) fn has_full(played: &Played) -> bool
 
 /// Whether a job of a device stopped since the history was full.
 fn has_full_run(runs: &Runs) -> bool
-    ensures { result ≡ has_full_run runs.now }
+    ensures { result ≡ list_any (λ (run : Run).
+        list_any (λ (job : JobView). is_stopped_full job.stop) run.jobs) runs.now }
 {
     runs.as_slice().iter().any(|run| has_full_job(&run.jobs))
 }
 
 /// Whether one of these jobs stopped since a history was full.
 fn has_full_job(jobs: &Jobs) -> bool
-    ensures { result ≡ has_full_job jobs.now }
+    ensures { result ≡ list_any (λ (job : JobView). is_stopped_full job.stop) jobs.now }
 {
     jobs.as_slice()
         .iter()
@@ -99,7 +103,7 @@ fn has_full_job(jobs: &Jobs) -> bool
 
 /// Whether a joystick's job stopped since a history was full.
 fn has_full_joy(joys: &JoyRuns) -> bool
-    ensures { result ≡ has_full_joy joys.now }
+    ensures { result ≡ list_any (λ (joy : JoyJobView). is_stopped_full joy.stop) joys.now }
 {
     joys.as_slice()
         .iter()
@@ -108,7 +112,7 @@ fn has_full_joy(joys: &JoyRuns) -> bool
 
 /// Whether an owner stopped since its calls were as many as may be kept.
 fn has_full_owner(owners: &OwnerRuns) -> bool
-    ensures { result ≡ has_full_owner owners.now }
+    ensures { result ≡ list_any (λ (owner : OwnerView). is_stopped_full owner.stop) owners.now }
 {
     owners
         .as_slice()

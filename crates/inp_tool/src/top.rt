@@ -2,8 +2,8 @@
 ghost use Rattle.std.specs.Prelude.{◌≡◌, ◌≤◌, map, is_some, string_bytes, IfSome, Some};
 ghost use Rattle.inp_args.specs.Request.{Arguments, requested};
 ghost use Rattle.inp_tool.specs.Edge.{Reads, reads_of, writes_of};
-ghost use Rattle.inp_tool.specs.Outcome.{played_status};
-ghost use Rattle.inp_tool.specs.Promise.{AskFor, HasCause, IsWritten, Promise, HidesNoFault, IsEnd};
+ghost use Rattle.inp_tool.specs.Outcome.{played_status, end_of};
+ghost use Rattle.inp_tool.specs.Promise.{AskFor, HasCause, IsWritten, Promise, HidesNoFault};
 ghost use Rattle.inp_tool.specs.Complete.{IsComplete};
 
 use crate::End;
@@ -176,7 +176,7 @@ fn write_outcome<O: Sink>(alloc: Global, found: Outcome, out: &mut O) -> End
 
 /// The status of what was found, with what goes with it.
 fn end_of(alloc: Global, found: Outcome) -> End
-    ensures end { IsEnd found result }
+    ensures end { result ≡ end_of found }
 {
     let nothing = Played {
         runs: Runs::new(alloc),
