@@ -1,5 +1,5 @@
 //! The events that wait for the end of their frame.
-ghost use Rattle.std.specs.Prelude.{◌≡◌, ◌≤◌, ◌<◌, ◌+◌, if◌then◌else◌, true, false, List, [], ◌∷◌, ◌++◌, length, option_to_list, IfOk};
+ghost use Rattle.std.specs.Prelude.{◌≡◌, ◌≤◌, ◌<◌, ◌+◌, if◌then◌else◌, true, false, List, [], ◌∷◌, ◌++◌, length, IfOk};
 ghost use Rattle.inp_model.specs.declared.event.Event.{Event};
 ghost use Rattle.inp_model.specs.declared.limits.TheConstants.{HINT_MAX};
 ghost use Rattle.inp_model.specs.Event.{core_report};
@@ -65,19 +65,10 @@ impl Batch {
             ≡ self.old.events ++ events_by (flags_of disposition) slot event }
         ensures hint { self.new.hint ≡ self.old.hint }
     {
-        let announces = disposition.contains(Disposition::SLOT);
-        self.push(announces.then_some(Event::of_slot(slot)));
-        let passes = disposition.contains(Disposition::TO_HANDLERS);
-        self.push(passes.then_some(event));
-    }
-
-    // Puts an event after the others, if there is one.
-    fn push(&mut self, event: Option<Event>)
-        requires room { length self.old.events < self.old.hint + 2 }
-        ensures pushed { self.new.events ≡ self.old.events ++ option_to_list event }
-        ensures hint { self.new.hint ≡ self.old.hint }
-    {
-        if let Some(event) = event {
+        if disposition.contains(Disposition::SLOT) {
+            self.events.push(Event::of_slot(slot)).unwrap();
+        }
+        if disposition.contains(Disposition::TO_HANDLERS) {
             self.events.push(event).unwrap();
         }
     }

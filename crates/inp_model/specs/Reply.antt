@@ -7,7 +7,7 @@ use Rattle.inp_model.specs.declared.multi_touch.TheConstants.{ABS_MT_SLOT, ABS_M
 use Rattle.inp_model.specs.declared.axis_info.AxisInfo.{AxisInfo}
 use Rattle.inp_model.specs.declared.taken.Taken.{Taken}
 use Rattle.inp_model.specs.declared.step.Step.{Step}
-use Rattle.inp_model.specs.declared.step.Step.TheVariants.{Inject, Tick, Open, Close, Read, Discard, GetKeys, GetSwitches, GetLeds, GetSounds, GetAxis, SetAxis, GetSlots, SyncSlots, Write, Grab, Ungrab, Mask, Clock as ToClock, Revoke, Inhibit, Uninhibit, End}
+use Rattle.inp_model.specs.declared.step.Step.TheVariants.{Open, Read, Discard, GetKeys, GetSwitches, GetLeds, GetSounds, GetAxis, SetAxis, GetSlots, SyncSlots, Grab, Ungrab, Mask}
 use Rattle.inp_model.specs.declared.reply.Reply.{Reply}
 use Rattle.inp_model.specs.declared.reply.Reply.TheVariants.{Done, Opened, Took, Discarded, Bits, Axis, Cells, Again, Refused}
 use Rattle.inp_model.specs.declared.reply.Refusal.TheVariants.{BadClient, NoDevice, BadKind, BadCode, BadInfo, Busy, NotGrabber, TooMany, LogFull, NoMemory}
@@ -188,10 +188,7 @@ done_answer past = alone (Done (length past))
 
 -- the answer to a step that is not refused
 abbrev pub accepted_with : Eats → Description → List Step → Step → Answer
-accepted_with eats d past (Inject e now) = done_answer past
-accepted_with eats d past (Tick now) = done_answer past
 accepted_with eats d past Open = alone (Opened (length past) (opens past) (ring d))
-accepted_with eats d past (Close client) = done_answer past
 accepted_with eats d past (Read client count) = took_answer past (taken_by_with eats d past client (Read client count))
 accepted_with eats d past (Discard client) = alone (Discarded (length past) (visible event_of (queue_with eats d past client)))
 accepted_with eats d past (GetKeys client) = bits_answer d past EV_KEY
@@ -199,18 +196,9 @@ accepted_with eats d past (GetSwitches client) = bits_answer d past EV_SW
 accepted_with eats d past (GetLeds client) = bits_answer d past EV_LED
 accepted_with eats d past (GetSounds client) = bits_answer d past EV_SND
 accepted_with eats d past (GetAxis client code) = alone (Axis (length past) (axis_answer d (raw d past) code))
-accepted_with eats d past (SetAxis client code axis) = done_answer past
 accepted_with eats d past (GetSlots client code) = cells_answer d past d.slots (column d (raw d past) code)
 accepted_with eats d past (SyncSlots client) = cells_answer d past (SLOT_VALUES * d.slots) (rows d (raw d past))
-accepted_with eats d past (Write client e now) = done_answer past
-accepted_with eats d past (Grab client) = done_answer past
-accepted_with eats d past (Ungrab client) = done_answer past
-accepted_with eats d past (Mask client kind word bits) = done_answer past
-accepted_with eats d past (ToClock client clock now) = done_answer past
-accepted_with eats d past (Revoke client) = done_answer past
-accepted_with eats d past (Inhibit now) = done_answer past
-accepted_with eats d past Uninhibit = done_answer past
-accepted_with eats d past End = done_answer past
+accepted_with eats d past _ = done_answer past
 
 abbrev pub accepted : Description → List Step → Step → Answer
 accepted d past x = accepted_with (eaten d) d past x
@@ -228,15 +216,9 @@ answer d past x = answer_with (eaten d) d past x
 
 -- does a reply say that the step was entered
 abbrev pub is_accepted : Reply → Bool
-is_accepted (Done at) = true
-is_accepted (Opened at client places) = true
-is_accepted (Took at count) = true
-is_accepted (Discarded at count) = true
-is_accepted (Bits at words) = true
-is_accepted (Axis at axis) = true
-is_accepted (Cells at count slot) = true
 is_accepted (Again at n) = false
 is_accepted (Refused at why) = false
+is_accepted _ = true
 
 -- the past after a step that was answered so: a refused step is not entered (docs/RULES.md, "Places and moments")
 abbrev pub past_after : Reply → Step → List Step → List Step

@@ -1,5 +1,5 @@
--- A step read on its own. A new step decides in `client_of` and `moment_of`, which have a row for each. In
--- the other tests and selectors a step that has no row says nothing.
+-- A step read on its own. A new step decides in `client_and_moment`, which has a row for each. In the other tests and
+-- selectors a step that has no row says nothing.
 use Rattle.std.specs.Prelude.{◌==◌, ℕ, ◌/◌, ◌%◌, Bool, true, false, ◌&&◌, if◌then◌else◌, nat_eq, Option, Some, None}
 use Rattle.std.specs.Int.{bit_at}
 use Rattle.inp_model.specs.declared.event.TheConstants.{EV_KEY, EV_SW, EV_LED, EV_SND}
@@ -9,57 +9,37 @@ use Rattle.inp_model.specs.declared.step.Step.{Step}
 use Rattle.inp_model.specs.declared.step.Step.TheVariants.{Inject, Tick, Open, Close, Read, Discard, GetKeys, GetSwitches, GetLeds, GetSounds, GetAxis, SetAxis, GetSlots, SyncSlots, Write, Grab, Ungrab, Mask, Clock as ToClock, Revoke, Inhibit, Uninhibit, End}
 use Rattle.inp_model.specs.Event.{is_multi_touch}
 
--- the client that a step names
-abbrev pub client_of : Step → Option ℕ
-client_of (Inject e now) = None
-client_of (Tick now) = None
-client_of Open = None
-client_of (Close client) = Some client
-client_of (Read client count) = Some client
-client_of (Discard client) = Some client
-client_of (GetKeys client) = Some client
-client_of (GetSwitches client) = Some client
-client_of (GetLeds client) = Some client
-client_of (GetSounds client) = Some client
-client_of (GetAxis client code) = Some client
-client_of (SetAxis client code axis) = Some client
-client_of (GetSlots client code) = Some client
-client_of (SyncSlots client) = Some client
-client_of (Write client e now) = Some client
-client_of (Grab client) = Some client
-client_of (Ungrab client) = Some client
-client_of (Mask client kind word bits) = Some client
-client_of (ToClock client clock now) = Some client
-client_of (Revoke client) = Some client
-client_of (Inhibit now) = None
-client_of Uninhibit = None
-client_of End = None
+-- the client that a step names, and its moment, 0 where it has none (docs/RULES.md, "Places and moments")
+abbrev pub client_and_moment : Step → Option ℕ × ℕ
+client_and_moment (Inject e now) = (None, now)
+client_and_moment (Tick now) = (None, now)
+client_and_moment Open = (None, 0)
+client_and_moment (Close client) = (Some client, 0)
+client_and_moment (Read client count) = (Some client, 0)
+client_and_moment (Discard client) = (Some client, 0)
+client_and_moment (GetKeys client) = (Some client, 0)
+client_and_moment (GetSwitches client) = (Some client, 0)
+client_and_moment (GetLeds client) = (Some client, 0)
+client_and_moment (GetSounds client) = (Some client, 0)
+client_and_moment (GetAxis client code) = (Some client, 0)
+client_and_moment (SetAxis client code axis) = (Some client, 0)
+client_and_moment (GetSlots client code) = (Some client, 0)
+client_and_moment (SyncSlots client) = (Some client, 0)
+client_and_moment (Write client e now) = (Some client, now)
+client_and_moment (Grab client) = (Some client, 0)
+client_and_moment (Ungrab client) = (Some client, 0)
+client_and_moment (Mask client kind word bits) = (Some client, 0)
+client_and_moment (ToClock client clock now) = (Some client, now)
+client_and_moment (Revoke client) = (Some client, 0)
+client_and_moment (Inhibit now) = (None, now)
+client_and_moment Uninhibit = (None, 0)
+client_and_moment End = (None, 0)
 
--- the moment of a step, 0 where it has no moment (docs/RULES.md, "Places and moments")
+abbrev pub client_of : Step → Option ℕ
+client_of x = (client_and_moment x).0
+
 abbrev pub moment_of : Step → ℕ
-moment_of (Inject e now) = now
-moment_of (Tick now) = now
-moment_of Open = 0
-moment_of (Close client) = 0
-moment_of (Read client count) = 0
-moment_of (Discard client) = 0
-moment_of (GetKeys client) = 0
-moment_of (GetSwitches client) = 0
-moment_of (GetLeds client) = 0
-moment_of (GetSounds client) = 0
-moment_of (GetAxis client code) = 0
-moment_of (SetAxis client code axis) = 0
-moment_of (GetSlots client code) = 0
-moment_of (SyncSlots client) = 0
-moment_of (Write client e now) = now
-moment_of (Grab client) = 0
-moment_of (Ungrab client) = 0
-moment_of (Mask client kind word bits) = 0
-moment_of (ToClock client clock now) = now
-moment_of (Revoke client) = 0
-moment_of (Inhibit now) = now
-moment_of Uninhibit = 0
-moment_of End = 0
+moment_of x = (client_and_moment x).1
 
 -- an event is injected
 abbrev pub is_inject : Step → Bool

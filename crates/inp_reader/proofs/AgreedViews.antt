@@ -20,9 +20,10 @@ use Rattle.inp_model.specs.Description.{Description, has_kind, supports, is_mult
 use Rattle.inp_model.specs.Reply.{Answer, IsAnswer, accepted, is_accepted}
 use Rattle.inp_model.specs.Run.{Call}
 use Rattle.inp_recon.specs.declared.view.View.{View}
-use Rattle.inp_recon.specs.View.{code_count, with_value_at, keys_after_answer, switches_after_answer}
-use Rattle.inp_recon.specs.View.{leds_after_answer, axes_after_answer, slot_after_answer, cells_after_answer}
-use Rattle.inp_recon.specs.View.{first_view, view_after_answer}
+use Rattle.inp_recon.specs.View.{code_count, with_value_at, first_view, view_after_answer}
+use Rattle.inp_recon.proofs.Answered.{keys_after_answer, switches_after_answer, leds_after_answer}
+use Rattle.inp_recon.proofs.Answered.{axes_after_answer, slot_after_answer, cells_after_answer}
+use Rattle.inp_recon.proofs.Answered.{view_after_answer-parts}
 use Rattle.inp_recon.proofs.Sizes.{length-axes_after_answer, length-cells_after_answer}
 use Rattle.inp_reader.proofs.QueryAnswers.{answered-as}
 use Rattle.inp_reader.specs.Reader.{queries, bit_queries, axis_queries, plain_axes, slot_queries, only_if}
@@ -207,10 +208,12 @@ pub agree-answer : (which : Compared) (d : Description) (past : List Step) (x : 
     → length v.cells ≡ 14 * d.slots → AgreeBut which (x ∷ xs) v w
     → AgreeBut which xs (view_after_answer v x given.reply given.cells)
     (view_after_answer w x given.reply given.cells)
-unfolding view_after_answer
 agree-answer which d past x xs given v w are accepted sized a =
     let t : Tells x given.reply = tells d past x given are accepted in
-    record {
+    rw (
+      view_after_answer-parts v x given.reply given.cells,
+      view_after_answer-parts w x given.reply given.cells,
+    ) (record {
       keys = λ is. keys-agree x given.reply xs v.keys w.keys t (a.keys is);
       switches = λ is. switches-agree x given.reply xs v.switches w.switches t (a.switches is);
       leds = λ is. leds-agree x given.reply xs v.leds w.leds t (a.leds is);
@@ -225,16 +228,16 @@ agree-answer which d past x xs given v w are accepted sized a =
           (has_cells d past x given v.cells are sized) ∙ a.cells_long
           ∙ sym (length-cells_after_answer x given.reply given.cells w.cells
           (has_cells d past x given w.cells are (sym a.cells_long ∙ sized)));
-    }
+    })
 
 -- an answer that tells the values of slots has as many as the view, and others leave them
 pub sized-answer : (d : Description) (past : List Step) (x : Step) (given : Answer) (v : View)
     → IsAnswer d past x given → length v.cells ≡ 14 * d.slots
     → length (view_after_answer v x given.reply given.cells).cells ≡ 14 * d.slots
-unfolding view_after_answer
 sized-answer d past x given v are sized =
-    length-cells_after_answer x given.reply given.cells v.cells
-    (has_cells d past x given v.cells are sized) ∙ sized
+    rw (view_after_answer-parts v x given.reply given.cells)
+    (length-cells_after_answer x given.reply given.cells v.cells
+    (has_cells d past x given v.cells are sized) ∙ sized)
 
 -- All answers
 

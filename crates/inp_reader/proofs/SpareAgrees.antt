@@ -24,9 +24,10 @@ use Rattle.inp_model.proofs.Descriptions.{get_or-replicate_same}
 use Rattle.inp_recon.proofs.ToldBits.{told_flag}
 use Rattle.inp_recon.specs.declared.view.View.{View}
 use Rattle.inp_recon.specs.View.{bit_in, bits_in, flags_after_reply, key_count, code_count, with_flag}
-use Rattle.inp_recon.specs.View.{axes_after_event, slot_after_event, keys_after_answer, switches_after_answer}
-use Rattle.inp_recon.specs.View.{leds_after_answer, axes_after_answer, slot_after_answer, first_view}
-use Rattle.inp_recon.specs.View.{view_after_event, view_after_answer}
+use Rattle.inp_recon.specs.View.{axes_after_event, slot_after_event, first_view, view_after_event}
+use Rattle.inp_recon.specs.View.{view_after_answer}
+use Rattle.inp_recon.proofs.Answered.{keys_after_answer, switches_after_answer, leds_after_answer}
+use Rattle.inp_recon.proofs.Answered.{axes_after_answer, slot_after_answer, view_after_answer-parts}
 use Rattle.inp_recon.proofs.Sizes.{IsSizedFor-first_view, IsSizedFor-after_event, IsSizedFor-after_answer}
 use Rattle.inp_recon.specs.Synchronised.{has_axis}
 use Rattle.inp_reader.proofs.QueryAnswers.{answered-as}
@@ -249,22 +250,27 @@ module _ (d : Description) where
   -- only what the device has is asked for, and it answers that a code that it has not is off
   pub IsSpare-after_answer : (past : List Step) (v : View) (x : Step) (given : Answer) → IsWanted x
       → IsAnswer d past x given → IsSpare d v → IsSpare d (view_after_answer v x given.reply given.cells)
-  unfolding view_after_answer
-  IsSpare-after_answer past v x given wanted are s = record {
-    sized =
-        IsSizedFor-after_answer d.slots v x given.reply given.cells
-        (has_cells d past x given v.cells are s.sized.cells) s.sized;
-    keys = λ none. (keys-answer past x given v.keys wanted are).0 none ∙ s.keys none;
-    switches = λ none. (switches-answer past x given v.switches wanted are).0 none ∙ s.switches none;
-    leds = λ none. (leds-answer past x given v.leds wanted are).0 none ∙ s.leds none;
-    key_codes = λ code none. (keys-answer past x given v.keys wanted are).1 code none (s.key_codes code none);
-    switch_codes =
-        λ code none. (switches-answer past x given v.switches wanted are).1 code none
-        (s.switch_codes code none);
-    led_codes = λ code none. (leds-answer past x given v.leds wanted are).1 code none (s.led_codes code none);
-    axes = λ code none. spare-axes x given.reply v.axes code wanted none ∙ s.axes code none;
-    slot = λ none. spare-slot x given.reply v.slot wanted none ∙ s.slot none;
-  }
+  IsSpare-after_answer past v x given wanted are s =
+      let parts = view_after_answer-parts v x given.reply given.cells in
+      let sized =
+      IsSizedFor-after_answer d.slots v x given.reply given.cells
+      (has_cells d past x given v.cells are s.sized.cells) s.sized in
+      rw parts
+      (record {
+        sized = rw parts at sized;
+        keys = λ none. (keys-answer past x given v.keys wanted are).0 none ∙ s.keys none;
+        switches = λ none. (switches-answer past x given v.switches wanted are).0 none ∙ s.switches none;
+        leds = λ none. (leds-answer past x given v.leds wanted are).0 none ∙ s.leds none;
+        key_codes =
+            λ code none. (keys-answer past x given v.keys wanted are).1 code none (s.key_codes code none);
+        switch_codes =
+            λ code none. (switches-answer past x given v.switches wanted are).1 code none
+            (s.switch_codes code none);
+        led_codes =
+            λ code none. (leds-answer past x given v.leds wanted are).1 code none (s.led_codes code none);
+        axes = λ code none. spare-axes x given.reply v.axes code wanted none ∙ s.axes code none;
+        slot = λ none. spare-slot x given.reply v.slot wanted none ∙ s.slot none;
+      })
 
   -- A new view
 

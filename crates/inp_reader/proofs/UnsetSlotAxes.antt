@@ -18,7 +18,8 @@ use Rattle.inp_model.specs.Run.{Call, place_of}
 use Rattle.inp_model.specs.Reply.{Answer, IsAnswer, is_accepted}
 use Rattle.inp_recon.specs.declared.view.View.{View}
 use Rattle.inp_recon.specs.View.{first_view, view_after_event, view_after_answer, with_value_at}
-use Rattle.inp_recon.specs.View.{axes_after_event, axes_after_reply, axes_after_answer, AreCells, HasCells}
+use Rattle.inp_recon.specs.View.{axes_after_event, axes_after_reply, AreCells, HasCells}
+use Rattle.inp_recon.proofs.Answered.{axes_after_answer, view_after_answer-parts}
 use Rattle.inp_recon.proofs.Sizes.{IsSizedFor-first_view, IsSizedFor-after_event, IsSizedFor-after_answer}
 use Rattle.inp_reader.proofs.QueryAnswers.{answered-as}
 use Rattle.inp_reader.specs.Synthesis.{value_at}
@@ -100,10 +101,10 @@ IsKeptView-after_event d v e h = record {
 
 IsKeptView-after_answer : (d : Description) (v : View) (x : Step) (reply : Reply) (buffer : List ℤ)
     → HasCells x reply v.cells buffer → IsKeptView d v → IsKeptView d (view_after_answer v x reply buffer)
-unfolding view_after_answer
 IsKeptView-after_answer d v x reply buffer room h = record {
   sized = IsSizedFor-after_answer d.slots v x reply buffer room h.sized;
-  axes = λ code from to. axis-answer v.axes code x reply (multi_touch code from to) ∙ h.axes code from to;
+  axes = λ code from to. rw (view_after_answer-parts v x reply buffer)
+      (axis-answer v.axes code x reply (multi_touch code from to) ∙ h.axes code from to);
 }
 
 -- ---- an answer that an evdev gave tells the values of all slots, where it tells any

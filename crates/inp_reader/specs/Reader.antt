@@ -1,5 +1,5 @@
 -- What a reader keeps, and what `start` and `next` ask and answer (docs/READER.md, "The reader").
-use Rattle.std.specs.Prelude.{ℕ, zero, suc, ◌+◌, ◌-◌, Bool, true, false, if◌then◌else◌, nat_lt, List, [], ◌∷◌, ◌++◌, length, map, filter, drop, Result, Ok, Err}
+use Rattle.std.specs.Prelude.{ℕ, suc, ◌+◌, ◌-◌, Bool, true, false, if◌then◌else◌, nat_lt, List, [], ◌∷◌, ◌++◌, length, map, filter, drop, Result, Ok, Err}
 use Rattle.std.specs.List.{range_with_len, list_any}
 use Rattle.inp_model.specs.declared.event.TheConstants.{EV_KEY, EV_ABS, EV_SW, EV_LED, ABS_MAX}
 use Rattle.inp_model.specs.declared.multi_touch.TheConstants.{ABS_MT_SLOT, ABS_MT_TOOL_Y}
@@ -147,14 +147,12 @@ read_talk r = read_or_hand_out r r.queue
 
 -- the first events of a queue, at most so many, and none after a loss
 unfoldable pub first_run : ℕ → List Taken → List Taken
-first_run zero q = []
-first_run (suc most) [] = []
 first_run (suc most) (taken ∷ q) = taken ∷ (if is_dropped taken.event then [] else first_run most q)
+first_run _ _ = []
 
 abbrev pub is_plain_phase : Phase → Bool
 is_plain_phase Plain = true
-is_plain_phase Needed = false
-is_plain_phase Handing = false
+is_plain_phase _ = false
 
 -- what so many `next` in mode Normal would hand out without a call, one after another
 abbrev pub queued_run : ℕ → ReaderState → List Taken

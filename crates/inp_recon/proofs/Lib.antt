@@ -1,3 +1,4 @@
+pub mod Answered
 pub mod AxesFollow
 pub mod AxisPasses
 pub mod CallsLeft

@@ -14,10 +14,10 @@ use Rattle.inp_recon.specs.declared.view.View.{View}
 use Rattle.inp_recon.specs.Cells.{with_cell, cell_index}
 use Rattle.inp_recon.specs.View.{IsSizedFor, AreCells, HasCells, with_value_at, keys_after_event}
 use Rattle.inp_recon.specs.View.{bits_after_event, axes_after_event, cells_after_event, flags_after_reply}
-use Rattle.inp_recon.specs.View.{axes_after_reply, cells_after_reply, bit_in, bits_in, keys_after_answer}
-use Rattle.inp_recon.specs.View.{switches_after_answer, leds_after_answer, axes_after_answer}
-use Rattle.inp_recon.specs.View.{cells_after_answer, first_view, view_after_event, view_after_events}
-use Rattle.inp_recon.specs.View.{view_after_answer}
+use Rattle.inp_recon.specs.View.{axes_after_reply, cells_after_reply, bit_in, bits_in, first_view}
+use Rattle.inp_recon.specs.View.{view_after_event, view_after_events, view_after_answer}
+use Rattle.inp_recon.proofs.Answered.{keys_after_answer, switches_after_answer, leds_after_answer}
+use Rattle.inp_recon.proofs.Answered.{axes_after_answer, cells_after_answer, view_after_answer-parts}
 use Rattle.inp_recon.proofs.NoContact.{length-first_cells}
 
 -- a new view
@@ -131,11 +131,12 @@ length-cells_after_answer _ reply buffer cells room = refl
 pub IsSizedFor-after_answer : (slots : ℕ) (v : View) (step : Step) (reply : Reply) (buffer : List ℤ)
     → HasCells step reply v.cells buffer → IsSizedFor slots v
     → IsSizedFor slots (view_after_answer v step reply buffer)
-unfolding view_after_answer
-IsSizedFor-after_answer slots v step reply buffer room h = record {
-  keys = length-keys_after_answer step reply v.keys h.keys;
-  switches = length-switches_after_answer step reply v.switches h.switches;
-  leds = length-leds_after_answer step reply v.leds h.leds;
-  axes = length-axes_after_answer step reply v.axes ∙ h.axes;
-  cells = length-cells_after_answer step reply buffer v.cells room ∙ h.cells;
-}
+IsSizedFor-after_answer slots v step reply buffer room h =
+    rw (view_after_answer-parts v step reply buffer)
+    (record {
+      keys = length-keys_after_answer step reply v.keys h.keys;
+      switches = length-switches_after_answer step reply v.switches h.switches;
+      leds = length-leds_after_answer step reply v.leds h.leds;
+      axes = length-axes_after_answer step reply v.axes ∙ h.axes;
+      cells = length-cells_after_answer step reply buffer v.cells room ∙ h.cells;
+    })

@@ -107,43 +107,16 @@ abbrev pub cells_after_reply : Reply → List ℤ → List ℤ → List ℤ
 cells_after_reply (Cells at count slot) buffer cells = take (length cells) buffer
 cells_after_reply _ buffer cells = cells
 
--- all keys are as the answer to their query tells
-abbrev pub keys_after_answer : Step → Reply → List Bool → List Bool
-keys_after_answer (GetKeys client) reply keys = flags_after_reply key_count reply keys
-keys_after_answer _ reply keys = keys
-
-abbrev pub switches_after_answer : Step → Reply → List Bool → List Bool
-switches_after_answer (GetSwitches client) reply switches = flags_after_reply code_count reply switches
-switches_after_answer _ reply switches = switches
-
-abbrev pub leds_after_answer : Step → Reply → List Bool → List Bool
-leds_after_answer (GetLeds client) reply leds = flags_after_reply code_count reply leds
-leds_after_answer _ reply leds = leds
-
--- the axis that was asked for has the value that was told
-abbrev pub axes_after_answer : Step → Reply → List ℤ → List ℤ
-axes_after_answer (GetAxis client code) reply axes = axes_after_reply code reply axes
-axes_after_answer _ reply axes = axes
-
--- the current slot is the one that a synchronisation of slots tells
-abbrev pub slot_after_answer : Step → Reply → ℤ → ℤ
-slot_after_answer (SyncSlots client) reply slot = slot_after_reply reply slot
-slot_after_answer _ reply slot = slot
-
--- all values of all slots are those that a synchronisation of slots wrote to the buffer
-abbrev pub cells_after_answer : Step → Reply → List ℤ → List ℤ → List ℤ
-cells_after_answer (SyncSlots client) reply buffer cells = cells_after_reply reply buffer cells
-cells_after_answer _ reply buffer cells = cells
-
+-- A view after an answer: all flags of a type are as the answer to their query tells, the axis that was asked for has the
+-- value that was told, and the current slot and all values of all slots are those that a synchronisation of slots tells.
 unfoldable pub view_after_answer : View → Step → Reply → List ℤ → View
-view_after_answer v step reply buffer = record {
-  keys = keys_after_answer step reply v.keys;
-  switches = switches_after_answer step reply v.switches;
-  leds = leds_after_answer step reply v.leds;
-  axes = axes_after_answer step reply v.axes;
-  slot = slot_after_answer step reply v.slot;
-  cells = cells_after_answer step reply buffer v.cells;
-}
+view_after_answer v (GetKeys client) reply buffer = record v { keys = flags_after_reply key_count reply v.keys }
+view_after_answer v (GetSwitches client) reply buffer = record v { switches = flags_after_reply code_count reply v.switches }
+view_after_answer v (GetLeds client) reply buffer = record v { leds = flags_after_reply code_count reply v.leds }
+view_after_answer v (GetAxis client code) reply buffer = record v { axes = axes_after_reply code reply v.axes }
+view_after_answer v (SyncSlots client) reply buffer =
+    record v { slot = slot_after_reply reply v.slot; cells = cells_after_reply reply buffer v.cells }
+view_after_answer v _ reply buffer = v
 
 -- an axis that is told is one that a device can have
 abbrev pub IsAxis : ℕ → Reply → Type 0

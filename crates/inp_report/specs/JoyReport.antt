@@ -1,6 +1,6 @@
 -- The report of a record's joysticks, which stands after that of its devices (docs/FORMATS.md, "The
 -- joysticks").
-use Rattle.std.specs.Prelude.{ℕ, ℤ, Bool, List, [], ◌++◌, length, take, codes, decimal, flat_map, slice_get, Option, Some, None}
+use Rattle.std.specs.Prelude.{ℕ, ℤ, Bool, List, [], ◌++◌, length, take, codes, decimal, flat_map, slice_get, option_map, option_and_then, unwrap_or}
 use Rattle.std.specs.Fmt.{signed_decimal}
 use Rattle.inp_bits.specs.Bits.{true_indices}
 use Rattle.inp_model.specs.Description.{Description}
@@ -39,17 +39,12 @@ abbrev pub joystick_text : List ℕ → Description → JoyJobView → List ℕ
 joystick_text name d joy =
     actor_line Joy name ++ (flat_map sight_line joy.sight ++ (picture_text d joy.picture ++ stop_line joy.stop))
 
-abbrev pub part_on_device : List ℕ → Option DeviceText → JoyJobView → List ℕ
-part_on_device name None joy = []
-part_on_device name (Some device) joy = joystick_text name device.caps joy
-
-abbrev pub part_of_actor : List DeviceText → Option ActorText → JoyJobView → List ℕ
-part_of_actor devices None joy = []
-part_of_actor devices (Some actor) joy = part_on_device actor.name (slice_get devices actor.device) joy
-
 -- the part of the joystick that did the job
 abbrev pub joy_text : RecordView → JoyJobView → List ℕ
-joy_text r joy = part_of_actor r.devices (slice_get r.actors joy.actor) joy
+joy_text r joy =
+    unwrap_or (option_and_then (λ (actor : ActorText).
+    option_map (λ (device : DeviceText). joystick_text actor.name device.caps joy) (slice_get r.devices actor.device))
+    (slice_get r.actors joy.actor)) []
 
 -- the joysticks in order
 unfoldable pub joy_report : RecordView → List JoyJobView → List ℕ

@@ -1,5 +1,5 @@
 -- The report of a record's owners, which stands after that of its joysticks (docs/FORMATS.md, "The owners").
-use Rattle.std.specs.Prelude.{ℕ, List, [], ◌++◌, codes, decimal, flat_map, slice_get, Option, Some, None}
+use Rattle.std.specs.Prelude.{ℕ, List, [], ◌++◌, codes, decimal, flat_map, slice_get, option_map, unwrap_or}
 use Rattle.inp_actors.specs.declared.role.Role.TheVariants.{Owner}
 use Rattle.inp_actors.specs.declared.actor_text.ActorText.{ActorText}
 use Rattle.inp_actors.specs.Record.{RecordView}
@@ -20,13 +20,10 @@ fed_line (Event e) = codes "fed " ++ (event_text e ++ LINE_FEED)
 abbrev pub owner_part : List ℕ → OwnerView → List ℕ
 owner_part name owner = actor_line Owner name ++ (flat_map fed_line owner.fed ++ stop_line owner.stop)
 
-abbrev pub part_of_owner : Option ActorText → OwnerView → List ℕ
-part_of_owner None owner = []
-part_of_owner (Some actor) owner = owner_part actor.name owner
-
 -- the part of the owner of this number
 abbrev pub owner_text : RecordView → OwnerView → List ℕ
-owner_text r owner = part_of_owner (slice_get r.actors owner.actor) owner
+owner_text r owner =
+    unwrap_or (option_map (λ (actor : ActorText). owner_part actor.name owner) (slice_get r.actors owner.actor)) []
 
 -- the owners in order
 unfoldable pub owner_report : RecordView → List OwnerView → List ℕ

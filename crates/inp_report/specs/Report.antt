@@ -1,10 +1,10 @@
 -- The whole report of a record and of its result (docs/FORMATS.md, "The whole report").
-use Rattle.std.specs.Prelude.{ℕ, Bool, if◌then◌else◌, List, [], ◌++◌, length, codes, decimal, flat_map, slice_get, Option, Some, None}
+use Rattle.std.specs.Prelude.{ℕ, Bool, if◌then◌else◌, List, [], ◌++◌, length, codes, decimal, flat_map, slice_get, option_map, unwrap_or}
 use Rattle.std.specs.List.{count_by, enumerate_from, zip}
 use Rattle.inp_model.specs.declared.step.Step.{Step}
 use Rattle.inp_model.specs.Description.{Description}
 use Rattle.inp_actors.specs.declared.role.Role.{Role}
-use Rattle.inp_actors.specs.declared.role.Role.TheVariants.{Source, Client, Tap, Joy, Owner}
+use Rattle.inp_actors.specs.declared.role.Role.TheVariants.{Source, Client, Tap}
 use Rattle.inp_actors.specs.declared.actor_text.ActorText.{ActorText}
 use Rattle.inp_actors.specs.declared.device_text.DeviceText.{DeviceText}
 use Rattle.inp_actors.specs.Record.{RecordView}
@@ -52,16 +52,12 @@ abbrev pub part_text : Role → List ℕ → Description → JobView → List �
 part_text Source name d job = source_line name (count_by is_counted_call job.sight) job.stop
 part_text Client name d job = reading_text Client name d job
 part_text Tap name d job = reading_text Tap name d job
-part_text Joy name d job = []
-part_text Owner name d job = []
-
-abbrev pub actor_part : Option ActorText → Description → JobView → List ℕ
-actor_part None d job = []
-actor_part (Some actor) d job = part_text actor.role actor.name d job
+part_text _ name d job = []
 
 -- the part of the actor that did the job
 abbrev pub job_text : List ActorText → Description → JobView → List ℕ
-job_text actors d job = actor_part (slice_get actors job.actor) d job
+job_text actors d job =
+    unwrap_or (option_map (λ (actor : ActorText). part_text actor.role actor.name d job) (slice_get actors job.actor)) []
 
 -- a device, its history where it is wanted, and the parts of its actors
 abbrev pub run_text : List ActorText → Bool → DeviceText × Run → List ℕ

@@ -1,10 +1,10 @@
 -- The summary of a record that was generated, and of its result (docs/FORMATS.md, "The summary").
-use Rattle.std.specs.Prelude.{ℕ, ℤ, List, [], ◌++◌, length, codes, decimal, flat_map, slice_get, Option, Some, None}
+use Rattle.std.specs.Prelude.{ℕ, ℤ, List, [], ◌++◌, length, codes, decimal, flat_map, slice_get, option_map, unwrap_or}
 use Rattle.std.specs.List.{count_by, zip}
 use Rattle.std.specs.Fmt.{signed_decimal}
 use Rattle.inp_model.specs.declared.multi_touch.TheConstants.{ABS_MT_POSITION_X, ABS_MT_POSITION_Y}
 use Rattle.inp_actors.specs.declared.role.Role.{Role}
-use Rattle.inp_actors.specs.declared.role.Role.TheVariants.{Source, Client, Tap, Joy, Owner}
+use Rattle.inp_actors.specs.declared.role.Role.TheVariants.{Source, Client, Tap}
 use Rattle.inp_actors.specs.declared.actor_text.ActorText.{ActorText}
 use Rattle.inp_actors.specs.declared.device_text.DeviceText.{DeviceText}
 use Rattle.inp_actors.specs.Record.{RecordView}
@@ -51,16 +51,12 @@ abbrev pub brief_line : Role → List ℕ → JobView → List ℕ
 brief_line Source name job = calls_line name (count_by is_counted_call job.sight)
 brief_line Client name job = counts_line Client name job
 brief_line Tap name job = counts_line Tap name job
-brief_line Joy name job = []
-brief_line Owner name job = []
-
-abbrev pub actor_brief : Option ActorText → JobView → List ℕ
-actor_brief None job = []
-actor_brief (Some actor) job = brief_line actor.role actor.name job
+brief_line _ name job = []
 
 -- the line of the actor that did the job
 abbrev pub job_brief : List ActorText → JobView → List ℕ
-job_brief actors job = actor_brief (slice_get actors job.actor) job
+job_brief actors job =
+    unwrap_or (option_map (λ (actor : ActorText). brief_line actor.role actor.name job) (slice_get actors job.actor)) []
 
 -- a device and its actors
 abbrev pub run_brief : List ActorText → DeviceText × Run → List ℕ

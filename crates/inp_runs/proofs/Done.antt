@@ -4,7 +4,7 @@ use Rattle.std.proofs.Common.{length, map, reverse, refl, sym, ap, subst, ◌∙
 use Rattle.std.proofs.Common.{None}
 use Rattle.inp_model.specs.Description.{IsDescription}
 use Rattle.inp_script.specs.Job.{job_end, joy_end, owner_end}
-use Rattle.inp_runs.specs.Job.{IsJob, IsJoyJob, IsRun, wait_of}
+use Rattle.inp_runs.specs.Job.{FollowsLines, IsJob, IsJoyJob, IsRun, wait_of}
 use Rattle.inp_runs.specs.JobViews.{AreReportsSeen}
 use Rattle.inp_runs.specs.Owner.{IsOwner}
 use Rattle.inp_runs.proofs.Common.{filter, range_with_len, sum_by, nat_tests, same_Some, slice_get-map}
@@ -21,8 +21,8 @@ use Rattle.inp_runs.proofs.losses.Causes.{all_taken-caused}
 use Rattle.inp_reader.proofs.Calls.{IsPlaceOf}
 use Rattle.inp_reader.proofs.LessEffort.{place-below}
 use Rattle.inp_script.specs.Ended.{ended_of, jobs_among, joys_among, owners_among}
-use Rattle.inp_script.specs.Runs.{is_on_device, is_joystick, is_owning, actors_of, jobs_of, joysticks_of}
-use Rattle.inp_script.specs.Runs.{joy_actors, owners_of, owner_actors, IsRunOf}
+use Rattle.inp_script.specs.Runs.{is_on_device, has_role, is_job, actors_of, actors_with, joy_actors}
+use Rattle.inp_script.specs.Runs.{owner_actors, IsRunOf}
 use Rattle.inp_runs.specs.Done.{HasFollowed, IsDeviceDone, IsRunAsPromised, calls_at}
 use Rattle.inp_runs.proofs.Entries.{entries, told-counts}
 use Rattle.inp_runs.proofs.views.Folded.{its_lines, view-folded}
@@ -72,37 +72,25 @@ module _ (r : RecordView) (d : Description) (wait : Option Waiting) (history : L
       job-told text.role d r.streams wait f.rounds
       (lines_by a.actor r.lines) a.job f.calls followed-answered f.follows
 
-  is_job : IsShown d history text.role a.job → IsJob r d wait history text.role (job_end a)
-  is_job shown = record {
+  done : FollowsLines r d wait history text.role a.actor a.job
+  done = record {
     calls = f.calls;
     legal = f.legal;
     memory = answered-memory d f.calls followed-answered;
     told = followed-told;
     rounds = f.rounds;
-    last = a.job;
     follows = f.follows;
-    own = shown.own;
-    losses = shown.losses;
     folded =
         view-folded r d history wait f.rounds a.actor text a.job f.calls is_record is_text f.legal f.follows;
-    ended = refl;
   }
 
+  job-is : IsShown d history text.role a.job → IsJob r d wait history text.role (job_end a)
+  job-is shown =
+      record { last = a.job; done = done; own = shown.own; losses = shown.losses; ended = refl }
+
   -- a joystick's is the same of its picture
-  is_joy_job : text.role ≡ Joy → IsJoyJob r d wait history (joy_end a)
-  is_joy_job joy = record {
-    calls = f.calls;
-    legal = f.legal;
-    memory = answered-memory d f.calls followed-answered;
-    told = followed-told;
-    rounds = f.rounds;
-    last = a.job;
-    follows = rw joy at f.follows;
-    pictured =
-        rw joy at (view-folded r d history wait f.rounds a.actor text a.job f.calls is_record is_text
-        f.legal f.follows);
-    ended = refl;
-  }
+  joy_job-is : text.role ≡ Joy → IsJoyJob r d wait history (joy_end a)
+  joy_job-is joy = record { last = a.job; done = rw joy at done; ended = refl }
 
 -- The actors of a device
 
@@ -228,13 +216,13 @@ module _ (idle : Option ℕ) (r : RecordView) (i : ℕ) (d : Description) (histo
             let its = actor_of e.index e.actor e.is in
             rw (same_text r i d wait history job text e.actor its e.same is_text) at
             (rw e.same at
-            (is_job r d wait history its.text e.actor is_record its.is_text its.followed
+            (job-is r d wait history its.text e.actor is_record its.is_text its.followed
             (shown-of r i d wait history actors e.index e.actor is_record owners e.is its)));
         joys = λ k joy h.
             let e = joy-end_of actors k joy h in
             let its = actor_of e.index e.actor e.is in
             subst (IsJoyJob r d wait history) e.same
-            (is_joy_job r d wait history its.text e.actor is_record its.is_text its.followed
+            (joy_job-is r d wait history its.text e.actor is_record its.is_text its.followed
             (sym its.followed.is_role ∙ joy-role e.actor.role e.passes));
         accepted = past;
         faithful =
@@ -251,38 +239,37 @@ module _ (idle : Option ℕ) (r : RecordView) (i : ℕ) (d : Description) (histo
       }
 
   -- a test of an actor's role keeps the same of the record's actors as of these
-  kept-numbers : (test : Role → Bool) (of_text : Option ActorText → Bool)
-      → ((text : ActorText) → of_text (Some text) ≡ test text.role)
+  kept-numbers : (test : Role → Bool)
       → map (λ (a : ActorView). a.actor) (filter (λ (a : ActorView). test a.role) actors)
-      ≡ filter (λ (n : ℕ). of_text (slice_get r.actors n)) (actors_of r.actors i)
-  kept-numbers test of_text agrees =
+      ≡ actors_with test r.actors i
+  kept-numbers test =
       let number : ActorView → ℕ = λ (a : ActorView). a.actor in
-      let in_record : ℕ → Bool = λ (n : ℕ). of_text (slice_get r.actors n) in
+      let in_record : ℕ → Bool = λ (n : ℕ). has_role test (slice_get r.actors n) in
       let same : filter (λ (a : ActorView). test a.role) actors
       ≡ filter (λ (a : ActorView). in_record a.actor) actors =
       filter-same (λ (a : ActorView). test a.role) (λ (a : ActorView). in_record a.actor) actors (λ k a is.
       let its = actor_of k a is in
-      ap test its.followed.is_role ∙ sym (agrees its.text) ∙ ap of_text (sym its.is_text)) in
+      ap test its.followed.is_role ∙ ap (has_role test) (sym its.is_text)) in
       ap (map number) same ∙ map-filter number in_record actors ∙ ap (filter in_record) s.numbers
 
-  job-numbers : map (λ (job : JobView). job.actor) (jobs_among (map ended_of actors)) ≡ jobs_of r.actors i
+  job-numbers : map (λ (job : JobView). job.actor) (jobs_among (map ended_of actors))
+      ≡ actors_with is_job r.actors i
   job-numbers =
       ap (map (λ (job : JobView). job.actor)) (jobs-kept actors)
       ∙ end-numbers job_end (λ (job : JobView). job.actor) (λ a. refl) (filter is_other actors)
-      ∙ kept-numbers (λ (role : Role). not (is_joy role || is_owner role))
-      (λ (o : Option ActorText). not (is_joystick o || is_owning o)) (λ text. refl)
+      ∙ kept-numbers is_job
 
-  joy-numbers : joy_actors (joys_among (map ended_of actors)) ≡ joysticks_of r.actors i
+  joy-numbers : joy_actors (joys_among (map ended_of actors)) ≡ actors_with is_joy r.actors i
   joy-numbers =
       ap joy_actors (joys-kept actors)
       ∙ end-numbers joy_end (λ (joy : JoyJobView). joy.actor) (λ a. refl) (filter is_stick actors)
-      ∙ kept-numbers is_joy is_joystick (λ text. refl)
+      ∙ kept-numbers is_joy
 
-  owner-numbers : owner_actors (owners_among (map ended_of actors)) ≡ owners_of r.actors i
+  owner-numbers : owner_actors (owners_among (map ended_of actors)) ≡ actors_with is_owner r.actors i
   owner-numbers =
       ap owner_actors (owners-kept actors)
       ∙ end-numbers owner_end (λ (owner : OwnerView). owner.actor) (λ a. refl) (filter is_feeding actors)
-      ∙ kept-numbers is_owner is_owning (λ text. refl)
+      ∙ kept-numbers is_owner
 
   -- what came of an owner
   is_owner_of : (k : ℕ) (owner : OwnerView) → slice_get (owners_among (map ended_of actors)) k ≡ Some owner

@@ -7,14 +7,13 @@ use Rattle.inp_runs.specs.Job.{ArePromised, joys_on}
 use Rattle.inp_runs.specs.Owner.{IsOwner}
 use Rattle.inp_runs.proofs.Common.{filter, range_with_len, length-map, map-append, filter-append, same_Some}
 use Rattle.inp_runs.proofs.Common.{slice_get-map, slice_get_within, ActorText, RecordView, JoyJobView}
-use Rattle.inp_runs.proofs.Common.{OwnerView, lines_by, rooms_of, eqb-true}
+use Rattle.inp_runs.proofs.Common.{OwnerView, lines_by, rooms_of, eqb-true, Role, is_joy, is_owner}
 use Rattle.std.specs.Prelude.{slice_get, flat_map}
 use Rattle.inp_actors.specs.declared.device_text.DeviceText.{DeviceText}
 use Rattle.inp_script.specs.declared.run.DeviceEnds.{DeviceEnds}
 use Rattle.inp_script.specs.declared.run.Run.{Run}
 use Rattle.inp_script.specs.Ended.{ended_run, joys_among, owners_among, played_of}
-use Rattle.inp_script.specs.Runs.{is_on_device, is_joystick, is_owning, actors_of, joysticks_of, joy_actors}
-use Rattle.inp_script.specs.Runs.{owners_of, IsRunOf}
+use Rattle.inp_script.specs.Runs.{is_on_device, has_role, actors_of, actors_with, joy_actors, IsRunOf}
 use Rattle.inp_runs.specs.Done.{IsRunAsPromised}
 use Rattle.inp_runs.proofs.Lists.{IsAt, IsImage, eq_false, filter-all, filter-none, option_map-some}
 use Rattle.inp_runs.proofs.Lists.{slice_get-filter, there-is}
@@ -93,7 +92,7 @@ all_joys done = flat_map its_joys done
 -- the joysticks of each of these devices are the record's, where the first one has this number
 abbrev AreNumbered : List ActorText → ℕ → List DeviceEnds → Type 0
 AreNumbered actors first done =
-    AreParts (joysticks_of actors) (λ (joys : List JoyJobView). joy_actors joys) its_joys first done
+    AreParts (actors_with is_joy actors) (λ (joys : List JoyJobView). joy_actors joys) its_joys first done
 
 -- The joysticks of one device among all
 
@@ -101,14 +100,13 @@ abbrev is_joy_on : List ActorText → ℕ → JoyJobView → Bool
 is_joy_on actors number joy = is_on_device number (slice_get actors joy.actor)
 
 -- one whose number is among those of a device's actors that a test keeps is on it
-is-on : {X : Type 0} (number : X → ℕ) (test : Option ActorText → Bool) (actors : List ActorText) (device : ℕ)
+is-on : {X : Type 0} (number : X → ℕ) (test : Role → Bool) (actors : List ActorText) (device : ℕ)
     (xs : List X) (k : ℕ) (x : X)
-    → map number xs ≡ filter (λ n. test (slice_get actors n)) (actors_of actors device)
-    → slice_get xs k ≡ Some x
+    → map number xs ≡ actors_with test actors device → slice_get xs k ≡ Some x
     → is_on_device device (slice_get actors (number x)) ≡ true
 is-on {X} number test actors device xs k x same is =
     let on : ℕ → Bool = λ (n : ℕ). is_on_device device (slice_get actors n) in
-    let its : ℕ → Bool = λ (n : ℕ). test (slice_get actors n) in
+    let its : ℕ → Bool = λ (n : ℕ). has_role test (slice_get actors n) in
     let there : slice_get (filter its (actors_of actors device)) k ≡ Some (number x) =
     rw (← same, slice_get-map, is) in
     let kept : IsAt its (actors_of actors device) (number x) = slice_get-filter its (actors_of actors device)
@@ -128,28 +126,29 @@ module _ (actors : List ActorText) where
   numbered-behind : (first : ℕ) (device : DeviceEnds) (done : List DeviceEnds)
       → AreNumbered actors first (device ∷ done) → AreNumbered actors (first + 1) done
   numbered-behind first device done h =
-      parts-behind (joysticks_of actors)
+      parts-behind (actors_with is_joy actors)
       (λ (joys : List JoyJobView). joy_actors joys) its_joys first device done h
 
   numbered-first : (first : ℕ) (device : DeviceEnds) (done : List DeviceEnds)
-      → AreNumbered actors first (device ∷ done) → joy_actors (its_joys device) ≡ joysticks_of actors first
+      → AreNumbered actors first (device ∷ done)
+      → joy_actors (its_joys device) ≡ actors_with is_joy actors first
   numbered-first first device done h =
-      parts-first (joysticks_of actors)
+      parts-first (actors_with is_joy actors)
       (λ (joys : List JoyJobView). joy_actors joys) its_joys first device done h
 
   on-device : (number : ℕ) (joys : List JoyJobView) (k : ℕ) (joy : JoyJobView)
-      → joy_actors joys ≡ joysticks_of actors number → slice_get joys k ≡ Some joy
+      → joy_actors joys ≡ actors_with is_joy actors number → slice_get joys k ≡ Some joy
       → is_joy_on actors number joy ≡ true
-  on-device number joys k joy same is = is-on (λ (j : JoyJobView). j.actor) is_joystick actors number
+  on-device number joys k joy same is = is-on (λ (j : JoyJobView). j.actor) is_joy actors number
       joys k joy same is
 
-  kept-here : (number : ℕ) (joys : List JoyJobView) → joy_actors joys ≡ joysticks_of actors number
+  kept-here : (number : ℕ) (joys : List JoyJobView) → joy_actors joys ≡ actors_with is_joy actors number
       → filter (is_joy_on actors number) joys ≡ joys
   kept-here number joys same =
       filter-all (is_joy_on actors number) joys (λ k joy is. on-device number joys k joy same is)
 
   kept-elsewhere : (one other : ℕ) (joys : List JoyJobView) → (one ≡ other → ⊥)
-      → joy_actors joys ≡ joysticks_of actors one → filter (is_joy_on actors other) joys ≡ []
+      → joy_actors joys ≡ actors_with is_joy actors one → filter (is_joy_on actors other) joys ≡ []
   kept-elsewhere one other joys apart same =
       filter-none (is_joy_on actors other) joys
       (λ k joy is. on-one (slice_get actors joy.actor) one other apart (on-device one joys k joy same is))
@@ -220,7 +219,7 @@ module _ (idle : Option ℕ) (r : RecordView) (done : List DeviceEnds) (long : l
       let promised : IsRunAsPromised idle r p.index named.0 p.of = each p.index named.0 p.of named.1 p.is in
       let here : text.device ≡ p.index =
       on_this p.index (slice_get r.actors owner.actor) text
-      (is-on (λ (o : OwnerView). o.actor) is_owning r.actors p.index
+      (is-on (λ (o : OwnerView). o.actor) is_owner r.actors p.index
       (its_owners p.of) p.place owner promised.owners_are p.there) is_text in
       let same_device : named.0 ≡ device = same_Some named.0 device (rw (← named.1, ← here) is_device) in
       let same_run : its_run p.of ≡ run =
@@ -241,13 +240,13 @@ module _ (idle : Option ℕ) (r : RecordView) (done : List DeviceEnds) (long : l
     };
     joys_of =
         rw (
-          parts-in_order (joysticks_of r.actors)
+          parts-in_order (actors_with is_joy r.actors)
               (λ (joy : JoyJobView). joy.actor) its_joys 0 done numbered,
           long,
         );
     owners_of =
         rw (
-          parts-in_order (owners_of r.actors)
+          parts-in_order (actors_with is_owner r.actors)
               (λ (owner : OwnerView). owner.actor) its_owners 0 done owned,
           long,
         );
@@ -271,10 +270,11 @@ module _ (idle : Option ℕ) (r : RecordView) (done : List DeviceEnds) (long : l
       numbered = λ k device is.
           let text = text-at done r.devices k device long is in
           let p : IsRunAsPromised idle r k text.0 device = each k text.0 device text.1 is in
-          p.joys_of ∙ ap (joysticks_of r.actors) (sym (zero-add k))
+          p.joys_of ∙ ap (actors_with is_joy r.actors) (sym (zero-add k))
 
-      owned : AreParts (owners_of r.actors) (map (λ (owner : OwnerView). owner.actor)) its_owners 0 done
+      owned : AreParts (actors_with is_owner r.actors) (map (λ (owner : OwnerView). owner.actor)) its_owners
+          0 done
       owned = λ k device is.
           let text = text-at done r.devices k device long is in
           let p : IsRunAsPromised idle r k text.0 device = each k text.0 device text.1 is in
-          p.owners_are ∙ ap (owners_of r.actors) (sym (zero-add k))
+          p.owners_are ∙ ap (actors_with is_owner r.actors) (sym (zero-add k))

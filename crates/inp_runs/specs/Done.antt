@@ -11,12 +11,13 @@ use Rattle.inp_actors.specs.declared.command.Command.TheVariants.{Feedback as To
 use Rattle.inp_actors.specs.declared.line.Line.{Line}
 use Rattle.inp_actors.specs.declared.role.Role.{Role}
 use Rattle.inp_actors.specs.declared.role.Role.TheVariants.{Owner}
+use Rattle.inp_actors.specs.Command.{is_joy, is_owner}
 use Rattle.inp_actors.specs.Record.{RecordView, IsRecord}
 use Rattle.inp_reader.specs.Talk.{EndsWith}
 use Rattle.inp_script.specs.declared.run.DeviceEnds.{DeviceEnds}
 use Rattle.inp_script.specs.declared.waiting.Waiting.{Waiting}
 use Rattle.inp_script.specs.Job.{ActorView, OwnerView, first_job}
-use Rattle.inp_script.specs.Runs.{actors_of, joysticks_of, joy_actors, owners_of, owner_actors, IsRunOf}
+use Rattle.inp_script.specs.Runs.{actors_of, actors_with, joy_actors, owner_actors, IsRunOf}
 use Rattle.inp_script.specs.Ended.{HasDeviceSlots, ended_of, ended_run, joys_among, owners_among, played_of}
 use Rattle.inp_runs.specs.Owner.{rooms_of, HasOwned, IsOwner}
 use Rattle.inp_runs.specs.Job.{lines_by, lines_talk, is_entry_at, wait_of, IsRun, ArePromised}
@@ -47,8 +48,8 @@ pub record IsDeviceDone (idle : Option ℕ) (r : RecordView) (i : ℕ) (d : Desc
 -- All that is promised of the result of the device of this number.
 pub record IsRunAsPromised (idle : Option ℕ) (r : RecordView) (i : ℕ) (device : DeviceText) (done : DeviceEnds) : Type 0 where
   pub run_of : IsRunOf r.actors i device (ended_run done)
-  pub joys_of : joy_actors (joys_among done.ends) ≡ joysticks_of r.actors i
-  pub owners_are : owner_actors (owners_among done.ends) ≡ owners_of r.actors i
+  pub joys_of : joy_actors (joys_among done.ends) ≡ actors_with is_joy r.actors i
+  pub owners_are : owner_actors (owners_among done.ends) ≡ actors_with is_owner r.actors i
   pub is_run : IsRun r device.caps (wait_of idle r i) (ended_run done) (joys_among done.ends)
   pub owners : (k : ℕ) (owner : OwnerView) → slice_get (owners_among done.ends) k ≡ Some owner
       → IsOwner device.caps done.history (rooms_of (lines_by owner.actor r.lines)) owner

@@ -46,9 +46,8 @@ on_job next (Some j) = next j
 -- What an actor does when its lines are done: where lines wait, a source that did not stop says that it is done, and
 -- nobody else does anything.
 abbrev pub last_talk : Option Waiting → Role → Job → Talk (Option Job)
-last_talk None role j = finish (Some j)
 last_talk (Some waiting) Source j = end_talk j.stop j
-last_talk (Some waiting) role j = finish (Some j)
+last_talk _ role j = finish (Some j)
 
 -- What an actor does at its lines, one after another, each in at most so many rounds, and when they are done.
 -- Where nobody waits a line ends at the first answer Again.
@@ -73,40 +72,34 @@ abbrev pub AreTold : Option Waiting → List model.Call → List Sight → Type 
 AreTold None calls sight = sight_of_calls calls ≡ filter is_call_entry sight
 AreTold (Some waiting) calls sight = TellsAllBut calls sight
 
--- The result of a job. Its calls are a legal run of the device's history, and none of them lacked memory. Its
--- sight and its view are what its lines and the answers to these calls make.
-pub record IsJob (r : RecordView) (d : Description) (wait : Option Waiting) (history : List Step) (role : Role) (job : JobView) : Type 0 where
+-- An actor did its lines. Its calls are a legal run of the device's history, and none of them lacked memory. Its job is
+-- what its lines and the answers to these calls make.
+pub record FollowsLines (r : RecordView) (d : Description) (wait : Option Waiting) (history : List Step) (role : Role) (actor : ℕ) (last : Job) : Type 0 where
   pub calls : List model.Call
   pub legal : IsLegalRun d history calls
   pub memory : list_any call_lacks_memory calls ≡ false
   -- they are those that its sight tells of
-  pub told : AreTold wait calls job.sight
+  pub told : AreTold wait calls last.sight
   pub rounds : ℕ
-  pub last : Job
   -- it follows its lines
-  pub follows : EndsWith (lines_talk role d r.streams wait rounds (lines_by job.actor r.lines) (first_job role d)) calls (Some last)
+  pub follows : EndsWith (lines_talk role d r.streams wait rounds (lines_by actor r.lines) (first_job role d)) calls (Some last)
+  -- its view, or a joystick's picture, is the fold of its whole sight
+  pub folded : IsFolded role d history last
+
+-- The result of a job.
+pub record IsJob (r : RecordView) (d : Description) (wait : Option Waiting) (history : List Step) (role : Role) (job : JobView) : Type 0 where
+  pub last : Job
+  pub done : FollowsLines r d wait history role job.actor last
   -- each event that it took is the one of its own index among those that its client took
   pub own : AreEventsOwn d history job.sight
   -- each loss that it took has its cause
   pub losses : AreLossesCaused d history job.sight
-  -- its view is the fold of its whole sight
-  pub folded : IsFolded role d history last
   pub ended : job ≡ job_end (record { actor = job.actor; role = role; description = d; job = last; owning = first_owning })
 
--- The result of a joystick's job: the same of its calls, and its sight and its picture are what its lines and
--- the answers to these calls make.
+-- The result of a joystick's job.
 pub record IsJoyJob (r : RecordView) (d : Description) (wait : Option Waiting) (history : List Step) (joy : JoyJobView) : Type 0 where
-  pub calls : List model.Call
-  pub legal : IsLegalRun d history calls
-  pub memory : list_any call_lacks_memory calls ≡ false
-  -- they are those that its sight tells of
-  pub told : AreTold wait calls joy.sight
-  pub rounds : ℕ
   pub last : Job
-  -- it follows its lines
-  pub follows : EndsWith (lines_talk Joy d r.streams wait rounds (lines_by joy.actor r.lines) (first_job Joy d)) calls (Some last)
-  -- its picture is what the records of its last startup and those after it make
-  pub pictured : IsFolded Joy d history last
+  pub done : FollowsLines r d wait history Joy joy.actor last
   pub ended : joy ≡ joy_end (record { actor = joy.actor; role = Joy; description = d; job = last; owning = first_owning })
 
 -- an accepted call at this place of the history

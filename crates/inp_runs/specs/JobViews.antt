@@ -11,7 +11,7 @@ use Rattle.inp_model.specs.Queue.{took}
 use Rattle.inp_model.specs.Reply.{is_accepted, taken_of}
 use Rattle.inp_model.specs.Run.{place_of}
 use Rattle.inp_actors.specs.declared.role.Role.{Role}
-use Rattle.inp_actors.specs.declared.role.Role.TheVariants.{Source, Client, Tap, Joy, Owner}
+use Rattle.inp_actors.specs.declared.role.Role.TheVariants.{Client, Tap}
 use Rattle.inp_recon.specs.declared.view.View.{View}
 use Rattle.inp_recon.specs.View.{first_view}
 use Rattle.inp_recon.specs.ClientView.{ReadEntry, read_entries, view_at}
@@ -19,17 +19,15 @@ use Rattle.inp_recon.specs.Faithful.{IsReportOf, IsFollowed, IsDeviceState}
 use Rattle.inp_recon.specs.Synchronised.{has_axis, is_synchronised}
 use Rattle.inp_reader.specs.declared.reader.TheConstants.{NO_CLIENT}
 use Rattle.inp_script.specs.declared.sight.Sight.{Sight}
-use Rattle.inp_script.specs.declared.sight.Sight.TheVariants.{Call, Took, Made, Again, Record}
-use Rattle.inp_script.specs.Fold.{Folding, settled, asking, tap_fold, client_fold}
+use Rattle.inp_script.specs.declared.sight.Sight.TheVariants.{Call, Took}
+use Rattle.inp_script.specs.Folding.{Folding, settled, asking}
+use Rattle.inp_script.specs.Fold.{tap_fold, client_fold}
 use Rattle.inp_script.specs.Line.{tap_client_after}
 
 -- a sight goes on from this client
 abbrev pub client_after_entry : ℕ → Sight → ℕ
 client_after_entry client (Call x reply) = tap_client_after x reply client
-client_after_entry client (Took taken) = client
-client_after_entry client (Made event) = client
-client_after_entry client (Again at ends) = client
-client_after_entry client (Record bytes) = client
+client_after_entry client _ = client
 
 unfoldable pub client_after_sight : ℕ → List Sight → ℕ
 client_after_sight client [] = client
@@ -56,9 +54,7 @@ abbrev pub read_after_entry : ℕ → Option LastRead → Sight → Option LastR
 read_after_entry client last (Call x reply) =
     if is_read_as client x && is_accepted reply then Some (record { place = place_of reply; events = 0 }) else last
 read_after_entry client last (Took taken) = option_map (λ (read : LastRead). record read { events = suc read.events }) last
-read_after_entry client last (Made event) = last
-read_after_entry client last (Again at ends) = last
-read_after_entry client last (Record bytes) = last
+read_after_entry client last _ = last
 
 unfoldable pub read_after_sight : ℕ → Option LastRead → List Sight → Option LastRead
 read_after_sight client last [] = last
@@ -91,17 +87,15 @@ AreEventsOwn d history sight =
     (k : ℕ) (taken : Taken) → slice_get sight k ≡ Some (Took taken) → IsOwnEvent d history (take (suc k) sight) taken
 
 -- while not all queries are answered the view is the one before them
-abbrev pub folded_view : Folding → View
+abbrev pub folded_view : Folding View → View
 folded_view (settled view) = view
 folded_view (asking old new xs) = old
 
 -- what a sight of this role says that the device is
 abbrev pub sight_view : Role → Description → List Step → List Sight → View
-sight_view Source d history sight = first_view d
 sight_view Tap d history sight = tap_fold d history (first_view d) sight
-sight_view Joy d history sight = first_view d
-sight_view Owner d history sight = first_view d
 sight_view Client d history sight = folded_view (client_fold d history (settled (first_view d)) sight)
+sight_view _ d history sight = first_view d
 
 -- Two views agree in each key, switch and LED, in each supported axis outside 0x2f to 0x3d, and in all values of all
 -- slots and in the current slot.

@@ -14,14 +14,15 @@ use Rattle.inp_reader.proofs.Meets.{Any, Runs, meets-ends}
 use Rattle.inp_reader.proofs.NextWalk.{AskRules, asked-meets, sync-by_parts, Queried, start-meets, Renewed}
 use Rattle.inp_reader.proofs.NextWalk.{NextRules, next-meets, stop-cases}
 use Rattle.inp_script.specs.declared.sight.Sight.TheVariants.{Took, Made}
-use Rattle.inp_script.specs.Fold.{Folding, settled, asking, asked_on, after_client_call, after_client_entry}
+use Rattle.inp_script.specs.Folding.{Folding, settled, asking, asked_on}
+use Rattle.inp_script.specs.Fold.{after_client_call, after_client_entry}
 use Rattle.inp_script.specs.Fold.{client_fold}
 use Rattle.inp_script.proofs.Folds.{told-exact, ArePlaced}
 use Rattle.inp_script.proofs.Told.{noted_sight}
 
 -- Queries
 
-abbrev FoldsSoFar : View → Folding → View → List Step → Type 0
+abbrev FoldsSoFar : View → Folding View → View → List Step → Type 0
 FoldsSoFar old f view left = (f ≡ asked_on old view left) × Each IsNoRead left
 
 -- The next event
@@ -36,13 +37,13 @@ stop_adds_none : (reply : Reply) → entries_of_next (stop_of reply) ≡ []
 stop_adds_none reply =
     stop-cases (λ next. entries_of_next next ≡ []) reply (λ at ends is. refl) refl refl (λ at. refl)
 
-abbrev IsSettled : Folding → ReaderState → Type 0
+abbrev IsSettled : Folding View → ReaderState → Type 0
 IsSettled f r = f ≡ settled r.view
 
 module _ (d : Description) where
   module _ (h : List Step) where
     -- the fold goes entry by entry, so the second sight is folded from what the first one gave
-    pub client_fold-append : (f : Folding) (sight more : List Sight)
+    pub client_fold-append : (f : Folding View) (sight more : List Sight)
         → client_fold d h f (sight ++ more) ≡ client_fold d h (client_fold d h f sight) more
     unfolding client_fold
     client_fold-append f [] more = refl
@@ -50,11 +51,11 @@ module _ (d : Description) where
 
     -- The fold of what is noted of calls, each of which was answered at its place
 
-    abbrev FoldedBy : Folding → Step → Answer → Folding → Type 0
+    abbrev FoldedBy : Folding View → Step → Answer → Folding View → Type 0
     FoldedBy f x a g =
         IsAnswer d (past_at h (place_of a.reply)) x a × (g ≡ client_fold d h f (call_sight x a.reply))
 
-    placed-run : (f : Folding) (calls : List Call) → ArePlaced d h calls
+    placed-run : (f : Folding View) (calls : List Call) → ArePlaced d h calls
         → Runs FoldedBy f calls (client_fold d h f (noted_sight calls))
     unfolding Runs client_fold
     placed-run f [] placed = refl
@@ -76,12 +77,12 @@ module _ (d : Description) where
     placed-right (call ∷ calls) more p = placed-right calls more p.1
 
     -- one call that was not answered Again, and a read
-    called : (f : Folding) (x : Step) (reply : Reply) → is_again reply ≡ false
+    called : (f : Folding View) (x : Step) (reply : Reply) → is_again reply ≡ false
         → client_fold d h f (call_sight x reply) ≡ after_client_call d h f x reply
     unfolding client_fold
     called f x reply e = rw e
 
-    once : (f g e : Folding) (x : Step) (a : Answer) → f ≡ e → IsNoRead x → FoldedBy f x a g
+    once : (f g e : Folding View) (x : Step) (a : Answer) → f ≡ e → IsNoRead x → FoldedBy f x a g
         → g ≡ after_client_call d h e x a.reply
     once f g e x a is no_read by =
         rw (by.1, called f x a.reply (not_again d (past_at h (place_of a.reply)) x a no_read by.0), is)
@@ -93,13 +94,13 @@ module _ (d : Description) where
         cond_both (is_again reply) _ _ (λ x. client_fold d h (settled v) x ≡ settled v)
         (λ _. refl) (λ _. refl)
 
-    nothing_more : (f : Folding) → client_fold d h f [] ≡ f
+    nothing_more : (f : Folding View) → client_fold d h f [] ≡ f
     unfolding client_fold
     nothing_more f = refl
 
-    folds-asks : (old : View) (Q : Folding → Result View Reply → Type 0)
-        → ((f : Folding) (view : View) → f ≡ settled view → Q f (Ok view))
-        → ((f : Folding) (reply : Reply) → f ≡ settled old → Q f (Err reply))
+    folds-asks : (old : View) (Q : Folding View → Result View Reply → Type 0)
+        → ((f : Folding View) (view : View) → f ≡ settled view → Q f (Ok view))
+        → ((f : Folding View) (reply : Reply) → f ≡ settled old → Q f (Err reply))
         → AskRules Any FoldedBy (FoldsSoFar old) Q
     folds-asks old Q whole stopped = record {
       asks = λ s view x xs j. tt;
@@ -128,8 +129,8 @@ module _ (d : Description) where
         → EndsWith (start_talk d r) calls (started, s)
         → client_fold d h (settled r.view) (noted_sight calls) ≡ settled s.view
     start-folds r s started calls placed ends =
-        let f : Folding = settled r.view in
-        let Q : Folding → Started × ReaderState → Type 0 = λ g o. g ≡ settled o.1.view in
+        let f : Folding View = settled r.view in
+        let Q : Folding View → Started × ReaderState → Type 0 = λ g o. g ≡ settled o.1.view in
         meets-ends Any FoldedBy Q f _ _ calls (started, s)
         (start-meets Any FoldedBy Q d r f (record {
           asks_open = tt;
@@ -140,14 +141,14 @@ module _ (d : Description) where
           refused = λ g a by other. once f g f Open a refl refl by ∙ not_opened r.view a.reply other;
         })) (placed-run f calls placed) ends
 
-    abbrev Folds : Folding → Next × ReaderState → Type 0
+    abbrev Folds : Folding View → Next × ReaderState → Type 0
     Folds f o = client_fold d h f (entries_of_next o.0) ≡ settled o.1.view
 
-    folds-stopped : (f : Folding) (r : ReaderState) (reply : Reply) → f ≡ settled r.view
+    folds-stopped : (f : Folding View) (r : ReaderState) (reply : Reply) → f ≡ settled r.view
         → Folds f (stop_of reply, r)
     folds-stopped f r reply is = rw (stop_adds_none, nothing_more) is
 
-    folds-entry : (f : Folding) (v : View) (entry : Sight) → f ≡ settled v
+    folds-entry : (f : Folding View) (v : View) (entry : Sight) → f ≡ settled v
         → client_fold d h f (entry ∷ []) ≡ after_client_entry d h (settled v) entry
     unfolding client_fold
     folds-entry f v entry is = rw is
@@ -162,7 +163,7 @@ module _ (d : Description) where
       empty = λ f r is plain q. nothing_more f ∙ is;
       idles = λ f r is plain e. nothing_more f ∙ is;
       syncs = λ f r is needed.
-          let Q : Folding → Result View Reply → Type 0 = Renewed IsSettled Folds r in
+          let Q : Folding View → Result View Reply → Type 0 = Renewed IsSettled Folds r in
           sync-by_parts Any FoldedBy Q d r f (record {
             asks_discard = tt;
             discarded = λ g a by e.
@@ -181,7 +182,7 @@ module _ (d : Description) where
       goes_on = λ f r is handing e. is;
     }
       where
-        after_read : (f g : Folding) (r : ReaderState) (a : Answer) → f ≡ settled r.view
+        after_read : (f g : Folding View) (r : ReaderState) (a : Answer) → f ≡ settled r.view
             → FoldedBy f (Read r.client 64) a g → g ≡ settled r.view
         after_read f g r a is by = rw (by.1, is) (read_once r.view r.client 64 a.reply)
 
@@ -190,7 +191,7 @@ module _ (d : Description) where
         → EndsWith (next_talk d mode r) calls (next, s)
         → client_fold d h (settled r.view) (noted_sight calls ++ entries_of_next next) ≡ settled s.view
     next-folds mode r s next calls placed ends =
-        let f : Folding = settled r.view in
+        let f : Folding View = settled r.view in
         client_fold-append f _ (entries_of_next next)
         ∙ meets-ends Any FoldedBy Folds f _ _ calls (next, s)
         (next-meets Any FoldedBy IsSettled Folds d mode (folds-rules mode) f r refl)

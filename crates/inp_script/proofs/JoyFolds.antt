@@ -28,8 +28,8 @@ use Rattle.inp_joy.proofs.TurnCases.{turns-all}
 use Rattle.inp_reader.specs.declared.mode.Mode.TheVariants.{Normal, Sync as Synchronising}
 use Rattle.inp_reader.specs.ReaderPlace.{is_needed}
 use Rattle.inp_script.specs.declared.sight.Sight.TheVariants.{Again as AgainSight, Record}
-use Rattle.inp_script.specs.JoyFold.{Showing, shown, asking, blank_shown, asked_on, after_joy_call}
-use Rattle.inp_script.specs.JoyFold.{after_joy_entry, joy_fold}
+use Rattle.inp_script.specs.Folding.{Folding, settled, asking, asked_on}
+use Rattle.inp_script.specs.JoyFold.{after_joy_call, after_joy_entry, joy_fold}
 use Rattle.inp_recon.proofs.Each.{Each}
 use Rattle.inp_reader.proofs.Meets.{Any, Runs, meets-ends}
 use Rattle.inp_reader.proofs.NextWalk.{AskRules, asked-meets, sync-by_parts, Queried, start-meets, Handed}
@@ -43,6 +43,10 @@ use Rattle.inp_script.proofs.JoyTold.{starts}
 use Rattle.inp_reader.proofs.Calls.{finished, split-and_then}
 use Rattle.inp_script.proofs.Told.{noted_sight, noted_sight-append}
 
+-- how the buttons and axes stand
+abbrev Showing : Type 0
+Showing = Folding PictureView
+
 -- Queries
 
 -- the picture once asking ended
@@ -51,7 +55,7 @@ asked_picture p (Ok view) = blank_picture
 asked_picture p (Err reply) = p
 
 abbrev AsksSoFar : PictureView → Showing → View → List Step → Type 0
-AsksSoFar p s view left = (s ≡ asked_on p left) × Each IsNoRead left
+AsksSoFar p s view left = (s ≡ asked_on p blank_picture left) × Each IsNoRead left
 
 -- A synchronisation
 
@@ -73,7 +77,7 @@ stopped-picture p None h = absurd h
 stopped-picture p (Some read) h = refl
 
 abbrev Syncs : PictureView → Showing → Next × ReaderState → Type 0
-Syncs p s o = s ≡ shown (synced_picture p (joy_read_of o.0))
+Syncs p s o = s ≡ settled (synced_picture p (joy_read_of o.0))
 
 -- Turns
 
@@ -87,7 +91,7 @@ joying_after (gives answer) = answer.joying
 joying_after (goes_on j) = j
 
 abbrev IsStill : PictureView → Showing → ReaderState → Type 0
-IsStill p s r = (s ≡ shown p) × (is_needed r.phase ≡ false)
+IsStill p s r = (s ≡ settled p) × (is_needed r.phase ≡ false)
 
 module _ (d : Description) where
   pub joy_fold-append : (s : Showing) (sight more : List Sight)
@@ -118,23 +122,24 @@ module _ (d : Description) where
   asked-picture j client ring (Err reply) = refused-picture j _ reply
 
   not_opened : (p : PictureView) (reply : Reply) → ((at client ring : ℕ) → reply ≡ Opened at client ring → ⊥)
-      → after_joy_call d (shown p) ToOpen reply ≡ shown p
+      → after_joy_call d (settled p) ToOpen reply ≡ settled p
   not_opened p (Opened at client ring) other = absurd (other at client ring refl)
   not_opened p reply other = refl
 
   -- these calls and the record behind them make the picture of what is kept
   abbrev Shows : PictureView → List Sight → JoyTurn → Type 0
-  Shows p sight t = joy_fold d (shown p) (sight ++ record_sight (out_of t)) ≡ shown (joying_after t).picture
+  Shows p sight t =
+      joy_fold d (settled p) (sight ++ record_sight (out_of t)) ≡ settled (joying_after t).picture
 
   joying_after_sync-shows : (sight : List Sight) (j : JoystickState) (r : ReaderState) (stop : Option JoyRead)
-      → joy_fold d (shown j.picture) sight ≡ shown (synced_picture j.picture stop)
+      → joy_fold d (settled j.picture) sight ≡ settled (synced_picture j.picture stop)
       → Shows j.picture sight (stop_or_on (with_reading j r) (with_startup r) stop)
   joying_after_sync-shows sight j r None h = rw append-nil h
   joying_after_sync-shows sight j r (Some read) h = rw append-nil h
 
   -- a record that was handed out moves the picture
   record-shows : (p : PictureView) (r : JoyRecord) → FitsBytes r
-      → joy_fold d (shown p) (Record (bytes_of_record r) ∷ []) ≡ shown (picture_after p r)
+      → joy_fold d (settled p) (Record (bytes_of_record r) ∷ []) ≡ settled (picture_after p r)
   unfolding joy_fold
   record-shows p r fits = rw record-back
 
@@ -159,18 +164,18 @@ module _ (d : Description) where
   -- the calls of a read tell nothing of the picture
 
   read_once : (p : PictureView) (client count : ℕ) (reply : Reply)
-      → joy_fold d (shown p) (call_sight (ToRead client count) reply) ≡ shown p
+      → joy_fold d (settled p) (call_sight (ToRead client count) reply) ≡ settled p
   unfolding joy_fold
   read_once p client count reply =
-      cond_both (is_again reply) _ _ (λ x. joy_fold d (shown p) x ≡ shown p) (λ _. refl) (λ _. refl)
+      cond_both (is_again reply) _ _ (λ x. joy_fold d (settled p) x ≡ settled p) (λ _. refl) (λ _. refl)
 
   -- Lines
 
   abbrev pub IsShown : Job → Type 0
-  IsShown j = joy_fold d blank_shown j.sight ≡ shown j.stick.picture
+  IsShown j = joy_fold d (settled blank_picture) j.sight ≡ settled j.stick.picture
 
   shows-on : (j : Job) (more : List Sight) → IsShown j
-      → joy_fold d blank_shown (j.sight ++ more) ≡ joy_fold d (shown j.stick.picture) more
+      → joy_fold d (settled blank_picture) (j.sight ++ more) ≡ joy_fold d (settled j.stick.picture) more
   shows-on j more fold = rw (joy_fold-append, fold)
 
   -- an answer Again tells nothing of the picture
@@ -185,7 +190,7 @@ module _ (d : Description) where
   taken-shown s (taken ∷ events) = taken-shown s events
 
   close_entry : (p : PictureView) (client : ℕ) (reply : Reply)
-      → joy_fold d (shown p) (call_sight (ToClose client) reply ++ again_sight reply) ≡ shown p
+      → joy_fold d (settled p) (call_sight (ToClose client) reply ++ again_sight reply) ≡ settled p
   unfolding joy_fold
   close_entry p client (NothingVisible at n) = refl
   close_entry p client reply = refl
@@ -220,43 +225,44 @@ module _ (d : Description) where
         rw (by.1, called s x a.reply (not_again d (past_at h (place_of a.reply)) x a no_read by.0), is)
 
     shows-asks : (p : PictureView) (Q : Showing → Result View Reply → Type 0)
-        → ((s : Showing) (asked : Result View Reply) → s ≡ shown (asked_picture p asked) → Q s asked)
+        → ((s : Showing) (asked : Result View Reply) → s ≡ settled (asked_picture p asked) → Q s asked)
         → AskRules Any ShownAt (AsksSoFar p) Q
     shows-asks p Q so = record {
       asks = λ s view x xs j. tt;
-      told = λ s t view x xs a j by is. (rw (once s t (asking p (x ∷ xs)) x a j.0 j.1.0 by, is), j.1.1);
+      told = λ s t view x xs a j by is.
+          (rw (once s t (asking p blank_picture (x ∷ xs)) x a j.0 j.1.0 by, is), j.1.1);
       stopped = λ s t view x xs a j by is.
-          so t (Err a.reply) (rw (once s t (asking p (x ∷ xs)) x a j.0 j.1.0 by, is));
+          so t (Err a.reply) (rw (once s t (asking p blank_picture (x ∷ xs)) x a j.0 j.1.0 by, is));
       whole = λ s view j. so s (Ok view) j.0;
     }
 
     reader_start-shows : (j : JoystickState) (o : Started × ReaderState) (calls : List Call)
         → ArePlaced d h calls
         → EndsWith (start_talk d j.reading) calls o
-        → joy_fold d (shown j.picture) (noted_sight calls) ≡ shown (joy_started d j o).1.picture
+        → joy_fold d (settled j.picture) (noted_sight calls) ≡ settled (joy_started d j o).1.picture
     reader_start-shows j o calls placed ends =
         let p : PictureView = j.picture in
-        let Q : Showing → Started × ReaderState → Type 0 = λ s q. s ≡ shown (joy_started d j q).1.picture in
-        meets-ends Any ShownAt Q (shown p) _ _ calls o
-        (start-meets Any ShownAt Q d j.reading (shown p) (record {
+        let Q : Showing → Started × ReaderState → Type 0 = λ s q. s ≡ settled (joy_started d j q).1.picture in
+        meets-ends Any ShownAt Q (settled p) _ _ calls o
+        (start-meets Any ShownAt Q d j.reading (settled p) (record {
           asks_open = tt;
           opened = λ t a at client ring by is.
               asked-meets Any ShownAt _ _
               (shows-asks p (Queried Q client ring j.reading)
               (λ u asked e. rw (e, ← asked-picture j client ring asked))) t _ j.reading.view
-              (rw (once (shown p) t (shown p) ToOpen a refl refl by, is), no_read-queries d client);
+              (rw (once (settled p) t (settled p) ToOpen a refl refl by, is), no_read-queries d client);
           refused = λ t a by other.
               rw (
                 refused-picture j j.reading a.reply,
                 ← not_opened p a.reply other,
-                ← once (shown p) t (shown p) ToOpen a refl refl by,
+                ← once (settled p) t (settled p) ToOpen a refl refl by,
               );
-        })) (shown-run (shown p) calls placed) ends
+        })) (shown-run (settled p) calls placed) ends
 
     joy_start-shows : (j : JoystickState) (o : Started × JoystickState) (calls : List Call)
         → ArePlaced d h calls
         → EndsWith (joy_start d j) calls o
-        → joy_fold d (shown j.picture) (noted_sight calls) ≡ shown o.1.picture
+        → joy_fold d (settled j.picture) (noted_sight calls) ≡ settled o.1.picture
     unfolding joy_start
     joy_start-shows j o calls placed ends =
         let next : Started × ReaderState → Talk (Started × JoystickState) = λ q. finish (joy_started d j q) in
@@ -273,28 +279,28 @@ module _ (d : Description) where
 
     needed-shows : (p : PictureView) (r : ReaderState) (calls : List Call) (o : Next × ReaderState)
         → is_needed r.phase ≡ true → ArePlaced d h calls → EndsWith (next_talk d Synchronising r) calls o
-        → joy_fold d (shown p) (noted_sight calls) ≡ shown (synced_picture p (joy_read_of o.0))
+        → joy_fold d (settled p) (noted_sight calls) ≡ settled (synced_picture p (joy_read_of o.0))
     needed-shows p r calls o needed placed ends =
         let Q : Showing → Result View Reply → Type 0 = Handed (Syncs p) r in
-        meets-ends Any ShownAt (Syncs p) (shown p) _ _ calls o
-        (needed-meets Any ShownAt (Syncs p) d (shown p) r needed
-        (sync-by_parts Any ShownAt Q d r (shown p) (record {
+        meets-ends Any ShownAt (Syncs p) (settled p) _ _ calls o
+        (needed-meets Any ShownAt (Syncs p) d (settled p) r needed
+        (sync-by_parts Any ShownAt Q d r (settled p) (record {
           asks_discard = tt;
           discarded = λ t a by is.
               asked-meets Any ShownAt _ Q (shows-asks p Q so) t _ r.view (
-                rw (once (shown p) t (shown p) (Discard r.client) a refl refl by, is),
+                rw (once (settled p) t (settled p) (Discard r.client) a refl refl by, is),
                 no_read-queries d r.client,
               );
           refused = λ t a by is.
-              so t (Err a.reply) (rw (once (shown p) t (shown p) (Discard r.client) a refl refl by, is));
-        }))) (shown-run (shown p) calls placed) ends
+              so t (Err a.reply) (rw (once (settled p) t (settled p) (Discard r.client) a refl refl by, is));
+        }))) (shown-run (settled p) calls placed) ends
       where
-        made : (s : Showing) (view : View) (left : List _) → s ≡ blank_shown
+        made : (s : Showing) (view : View) (left : List _) → s ≡ (settled blank_picture)
             → Syncs p s (hand_synthesised (after_full_sync r view) left)
         made s view [] e = e
         made s view (event ∷ left) e = e
 
-        so : (s : Showing) (asked : Result View Reply) → s ≡ shown (asked_picture p asked)
+        so : (s : Showing) (asked : Result View Reply) → s ≡ settled (asked_picture p asked)
             → Handed (Syncs p) r s asked
         so s (Ok view) e = made s view (after_full_sync r view).left e
         so s (Err reply) e =
@@ -308,7 +314,7 @@ module _ (d : Description) where
         (needed-shows j.picture j.reading calls _ needed placed s.talk_ends))
 
     still-rules : (p : PictureView)
-        → NextRules Any ShownAt (IsStill p) (λ (s : Showing) (o : Next × ReaderState). s ≡ shown p) d Normal
+        → NextRules Any ShownAt (IsStill p) (λ (s : Showing) (o : Next × ReaderState). s ≡ settled p) d Normal
     still-rules p = record {
       asks_read = λ s r i. tt;
       reads = λ s t r a i plain none by is. (after_read s t r a i.0 by, i.1);
@@ -323,20 +329,20 @@ module _ (d : Description) where
       goes_on = λ s r i is mode. (i.0, refl);
     }
       where
-        after_read : (s t : Showing) (r : ReaderState) (a : Answer) → s ≡ shown p
-            → ShownAt s (ToRead r.client 64) a t → t ≡ shown p
+        after_read : (s t : Showing) (r : ReaderState) (a : Answer) → s ≡ settled p
+            → ShownAt s (ToRead r.client 64) a t → t ≡ settled p
         after_read s t r a is by = rw (by.1, is) (read_once p r.client 64 a.reply)
 
     next-tells_nothing : (p : PictureView) (r : ReaderState) (calls : List Call) (o : Next × ReaderState)
         (more : List Sight) → is_needed r.phase ≡ false → ArePlaced d h calls
         → EndsWith (next_talk d Normal r) calls o
-        → joy_fold d (shown p) (noted_sight calls ++ more) ≡ joy_fold d (shown p) more
+        → joy_fold d (settled p) (noted_sight calls ++ more) ≡ joy_fold d (settled p) more
     next-tells_nothing p r calls o more plain placed ends =
         rw (
           joy_fold-append,
-          next-ends Any ShownAt (IsStill p) (λ (s : Showing) (q : Next × ReaderState). s ≡ shown p) d Normal
-              (still-rules p) (shown p) (joy_fold d (shown p) (noted_sight calls)) r calls o (refl, plain)
-              (shown-run (shown p) calls placed) ends,
+          next-ends Any ShownAt (IsStill p) (λ (s : Showing) (q : Next × ReaderState). s ≡ settled p) d Normal
+              (still-rules p) (settled p) (joy_fold d (settled p) (noted_sight calls)) r calls o (refl, plain)
+              (shown-run (settled p) calls placed) ends,
         )
 
     turn-shows : (j : JoystickState) (calls : List Call) (t : JoyTurn) → ArePlaced d h calls
@@ -364,7 +370,7 @@ module _ (d : Description) where
     -- a turn that goes on
     on-shows : (j k : JoystickState) (calls : List Call) → ArePlaced d h calls
         → EndsWith (turn_talk d j) calls (goes_on k)
-        → joy_fold d (shown j.picture) (noted_sight calls) ≡ shown k.picture
+        → joy_fold d (settled j.picture) (noted_sight calls) ≡ settled k.picture
     on-shows j k calls placed e =
         rw (← append-nil (noted_sight calls))
         (turn-shows j calls (goes_on k) placed (turn-case d j calls (goes_on k) e))
@@ -373,8 +379,8 @@ module _ (d : Description) where
     abbrev ReadShows : JoystickState → List Call → JoyAnswer → Type 0
     ReadShows j calls answer =
         ArePlaced d h calls
-        → joy_fold d (shown j.picture) (noted_sight calls ++ record_sight answer.record_out)
-        ≡ shown answer.joying.picture
+        → joy_fold d (settled j.picture) (noted_sight calls ++ record_sight answer.record_out)
+        ≡ settled answer.joying.picture
 
     more-shows : (j k : JoystickState) (calls more : List Call) (answer : JoyAnswer)
         → EndsWith (turn_talk d j) calls (goes_on k) → ReadShows k more answer

@@ -17,7 +17,8 @@ use Rattle.inp_script.specs.Client.{LineProgress, Turn, start_job, start_ends, j
 use Rattle.inp_script.specs.Client.{mode_of}
 use Rattle.inp_script.specs.Client.{next_round, forced}
 use Rattle.inp_script.specs.JoyFold.{joy_fold}
-use Rattle.inp_script.specs.Fold.{settled, after_first_call, client_fold, tap_fold, IsFolded, StaysFolded}
+use Rattle.inp_script.specs.Folding.{settled, after_first_call}
+use Rattle.inp_script.specs.Fold.{client_fold, tap_fold, IsFolded, StaysFolded}
 use Rattle.inp_script.proofs.ClientFolds.{client_fold-append, start-folds, next-folds, entries_of_next}
 use Rattle.inp_script.proofs.ClientFolds.{placed-left}
 use Rattle.inp_script.proofs.Folds.{Placed, placed-run, run-placed, ArePlaced, call-folds}
@@ -71,7 +72,7 @@ module _ (d : Description) where
   -- a step that tells nothing of the device
   pub record IsSilent (x : Step) : Type 0 where
     -- whatever its reply, the view of the fold stays
-    pub alone : (view : View) (reply : Reply) → after_first_call d view x reply ≡ settled view
+    pub alone : (view : View) (reply : Reply) → after_first_call (λ v. v) d view x reply ≡ settled view
     -- where it is accepted, it brings no events
     pub unread : (past : List Step) → (accepted d past x).events ≡ []
 

@@ -6,9 +6,9 @@ use Rattle.inp_actors.specs.declared.command.Command.TheVariants.{Open, Next as 
 use Rattle.inp_reader.specs.declared.mode.Mode.{Mode}
 use Rattle.inp_reader.specs.declared.mode.Mode.TheVariants.{Normal, Sync as Synchronising}
 use Rattle.inp_reader.specs.declared.phase.Phase.{Phase}
-use Rattle.inp_reader.specs.declared.phase.Phase.TheVariants.{Plain, Needed, Handing}
+use Rattle.inp_reader.specs.declared.phase.Phase.TheVariants.{Plain}
 use Rattle.inp_reader.specs.declared.next.Next.{Next}
-use Rattle.inp_reader.specs.declared.next.Next.TheVariants.{Success, Dropped, Sync, Again as NothingVisible, Synced, NoDevice, Closed, Full as FullHistory}
+use Rattle.inp_reader.specs.declared.next.Next.TheVariants.{Success, Dropped, Sync, Again as NothingVisible, Synced, Full as FullHistory}
 use Rattle.inp_reader.specs.declared.started.Started.{Started}
 use Rattle.inp_reader.specs.Reader.{ReaderState, start_talk, next_talk, with_sync_needed}
 use Rattle.inp_reader.specs.Talk.{Talk, finish, and_then}
@@ -28,11 +28,8 @@ abbrev pub job_after_start : Started → ReaderState → List Sight → Job
 job_after_start started reading sight = record { reading = reading; sight = sight; stop = stop_after_start started; stick = no_stick }
 
 -- it is given up where memory ran out
-abbrev pub unless_start_lacks : Started → Job → Option Job
-unless_start_lacks started j = if start_lacks_memory started then None else Some j
-
 abbrev pub start_ends : (Started × ReaderState) × List Sight → Option Job
-start_ends o = unless_start_lacks o.0.0 (job_after_start o.0.0 o.0.1 o.1)
+start_ends o = if start_lacks_memory o.0.0 then None else Some (job_after_start o.0.0 o.0.1 o.1)
 
 unfoldable pub start_job : Description → Job → Talk (Option Job)
 start_job d j = and_then (noted (start_talk d j.reading) j.sight) (λ o. finish (start_ends o))
@@ -56,8 +53,7 @@ pub data Turn : Type 0 where
 abbrev pub mode_of : Bool → Phase → Mode
 mode_of true phase = Normal
 mode_of false Plain = Normal
-mode_of false Needed = Synchronising
-mode_of false Handing = Synchronising
+mode_of false _ = Synchronising
 
 abbrev pub with_sight : Job → Sight → Job
 with_sight j sight = record j { sight = j.sight ++ sight ∷ [] }
@@ -98,9 +94,8 @@ turn_after wait left agains (Dropped taken) j = handed (one_less left) (with_sig
 turn_after wait left agains (Sync event) j = handed (one_less left) (with_sight j (Made event))
 turn_after wait left agains Synced j = goes_on (record { job = j; left = left; agains = 0 })
 turn_after wait left agains (NothingVisible at ends) j = after_again (patience wait ends) left (suc agains) at ends j
-turn_after wait left agains NoDevice j = ends_with j
-turn_after wait left agains Closed j = ends_with j
 turn_after wait left agains (FullHistory at) j = ends_with (with_stop j (Full at))
+turn_after wait left agains _ j = ends_with j
 
 abbrev pub after_next : Option Waiting → LineProgress → (Next × ReaderState) × List Sight → Turn
 after_next wait g o = turn_after wait g.left g.agains o.0.0 (record g.job { reading = o.0.1; sight = o.1 })

@@ -29,20 +29,17 @@ ended_of a = ended_as a.role a
 abbrev pub jobs_among : List Ended → List JobView
 jobs_among [] = []
 jobs_among (JobEnded job ∷ ends) = job ∷ jobs_among ends
-jobs_among (JoyEnded joy ∷ ends) = jobs_among ends
-jobs_among (OwnerEnded owner ∷ ends) = jobs_among ends
+jobs_among (_ ∷ ends) = jobs_among ends
 
 abbrev pub joys_among : List Ended → List JoyJobView
 joys_among [] = []
-joys_among (JobEnded job ∷ ends) = joys_among ends
 joys_among (JoyEnded joy ∷ ends) = joy ∷ joys_among ends
-joys_among (OwnerEnded owner ∷ ends) = joys_among ends
+joys_among (_ ∷ ends) = joys_among ends
 
 abbrev pub owners_among : List Ended → List OwnerView
 owners_among [] = []
-owners_among (JobEnded job ∷ ends) = owners_among ends
-owners_among (JoyEnded joy ∷ ends) = owners_among ends
 owners_among (OwnerEnded owner ∷ ends) = owner ∷ owners_among ends
+owners_among (_ ∷ ends) = owners_among ends
 
 -- the result of a device, and of its jobs but joysticks' and owners'
 abbrev pub ended_run : DeviceEnds → Run

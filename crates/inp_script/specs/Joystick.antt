@@ -1,10 +1,10 @@
 -- What the lines of joysticks do (docs/RUNS.md, "Jobs", and docs/RULES.md, "Joystick clients").
-use Rattle.std.specs.Prelude.{ℕ, zero, suc, List, [], ◌∷◌, ◌++◌, Option, Some, None}
+use Rattle.std.specs.Prelude.{ℕ, zero, suc, if◌then◌else◌, List, [], ◌∷◌, ◌++◌, Option, Some, None}
 use Rattle.inp_model.specs.Description.{Description}
 use Rattle.inp_actors.specs.declared.command.Command.{Command}
 use Rattle.inp_actors.specs.declared.command.Command.TheVariants.{Open, Read}
 use Rattle.inp_joy.specs.declared.joy_read.JoyRead.{JoyRead}
-use Rattle.inp_joy.specs.declared.joy_read.JoyRead.TheVariants.{Record as HandedOut, Frame, Again, NoDevice, Closed, Full as FullHistory, More}
+use Rattle.inp_joy.specs.declared.joy_read.JoyRead.TheVariants.{Record as HandedOut, Frame, Again, Full as FullHistory, More}
 use Rattle.inp_joy.specs.declared.joy_record.JoyRecord.{JoyRecord}
 use Rattle.inp_joy.specs.JoyRecord.{bytes_of_record}
 use Rattle.inp_joy.specs.Joy.{JoystickState, JoyAnswer, joy_start, turns}
@@ -13,16 +13,18 @@ use Rattle.inp_reader.specs.Talk.{Talk, finish, and_then}
 use Rattle.inp_script.specs.declared.sight.Sight.{Sight}
 use Rattle.inp_script.specs.declared.sight.Sight.TheVariants.{Again as NothingVisible, Record}
 use Rattle.inp_script.specs.declared.stop.Stop.TheVariants.{Full}
-use Rattle.inp_script.specs.Client.{unless_start_lacks, with_sight, with_stop}
+use Rattle.inp_script.specs.Client.{with_sight, with_stop}
 use Rattle.inp_script.specs.Job.{Job, joying_of, with_joying}
 use Rattle.inp_script.specs.Line.{step_of, call_if}
-use Rattle.inp_script.specs.Sight.{noted, stop_after_start}
+use Rattle.inp_script.specs.Sight.{noted, stop_after_start, start_lacks_memory}
 
 -- Starting
 
 -- a job after a start of its joystick client; it is given up where memory ran out
 abbrev pub after_joy_start : Job → (Started × JoystickState) × List Sight → Option Job
-after_joy_start j o = unless_start_lacks o.0.0 (record (with_joying j o.0.1) { sight = o.1; stop = stop_after_start o.0.0 })
+after_joy_start j o =
+    if start_lacks_memory o.0.0 then None
+    else Some (record (with_joying j o.0.1) { sight = o.1; stop = stop_after_start o.0.0 })
 
 unfoldable pub start_joystick : Description → Job → Talk (Option Job)
 start_joystick d j = and_then (noted (joy_start d (joying_of j)) j.sight) (λ o. finish (after_joy_start j o))
@@ -51,9 +53,8 @@ after_joy_read go_on HandedOut j = finish (Some (handed_out j))
 after_joy_read go_on (Frame place) j = go_on j
 after_joy_read go_on More j = go_on j
 after_joy_read go_on (Again at ends) j = finish (Some (line_ends (with_sight j (NothingVisible at ends))))
-after_joy_read go_on NoDevice j = finish (Some (line_ends j))
-after_joy_read go_on Closed j = finish (Some (line_ends j))
 after_joy_read go_on (FullHistory at) j = finish (Some (line_ends (with_stop j (Full at))))
+after_joy_read go_on _ j = finish (Some (line_ends j))
 
 abbrev pub after_turns : (Job → Talk (Option Reach)) → Job → Option JoyAnswer → List Sight → Talk (Option Reach)
 after_turns go_on j None sight = finish None

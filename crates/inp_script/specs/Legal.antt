@@ -5,7 +5,7 @@ use Rattle.inp_model.specs.Description.{Description}
 use Rattle.inp_model.specs.Evdev.{EvdevView, is_again, own_after}
 use Rattle.inp_model.specs.Run.{Call, IsLegalRun}
 use Rattle.inp_script.specs.declared.sight.Sight.{Sight}
-use Rattle.inp_script.specs.declared.sight.Sight.TheVariants.{Call as Called, Took, Made, Again, Record as HandedOut}
+use Rattle.inp_script.specs.declared.sight.Sight.TheVariants.{Call as Called, Again}
 use Rattle.inp_script.specs.declared.stop.Stop.TheVariants.{Idle}
 use Rattle.inp_script.specs.Job.{Job}
 use Rattle.inp_script.specs.Sight.{call_sight, again_sight}
@@ -19,10 +19,8 @@ sight_of_calls (call ∷ calls) =
 -- an entry of a call, or of an answer Again, and not of an event or a record
 abbrev pub is_call_entry : Sight → Bool
 is_call_entry (Called x reply) = true
-is_call_entry (Took taken) = false
-is_call_entry (Made event) = false
 is_call_entry (Again at ends) = true
-is_call_entry (HandedOut bytes) = false
+is_call_entry _ = false
 
 -- The calls that a sight tells of are a legal run of what was seen of the history.
 pub record IsLegalSight (d : Description) (seen : List Step) (sight : List Sight) : Type 0 where
@@ -34,10 +32,7 @@ pub record IsLegalSight (d : Description) (seen : List Step) (sight : List Sight
 abbrev pub places_in : List Sight → List ℕ
 places_in [] = []
 places_in (Called x reply ∷ sight) = own_after reply [] ++ places_in sight
-places_in (Took taken ∷ sight) = places_in sight
-places_in (Made event ∷ sight) = places_in sight
-places_in (Again at ends ∷ sight) = places_in sight
-places_in (HandedOut bytes ∷ sight) = places_in sight
+places_in (_ ∷ sight) = places_in sight
 
 -- A sight grew, and the evdev gained as its own the places of the accepted calls that the sight gained, in order.
 pub record GainsPlaces (before after : EvdevView) (old new : List Sight) : Type 0 where

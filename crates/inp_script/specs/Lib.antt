@@ -12,6 +12,7 @@ pub mod DoneLine
 pub mod ActorLine
 pub mod Notes
 pub mod Legal
+pub mod Folding
 pub mod JoyFold
 pub mod Fold
 pub mod Joystick

@@ -3,6 +3,7 @@ use Rattle.std.specs.Prelude.{◌≡◌, ℕ, Bool, false, not, ◌||◌, nat_eq
 use Rattle.std.specs.List.{range_with_len}
 use Rattle.inp_actors.specs.declared.actor_text.ActorText.{ActorText}
 use Rattle.inp_actors.specs.declared.device_text.DeviceText.{DeviceText}
+use Rattle.inp_actors.specs.declared.role.Role.{Role}
 use Rattle.inp_actors.specs.Command.{is_joy, is_owner}
 use Rattle.inp_actors.specs.Record.{RecordView}
 use Rattle.inp_recon.specs.View.{IsSizedFor}
@@ -17,32 +18,23 @@ is_on_device device (Some actor) = nat_eq actor.device device
 abbrev pub actors_of : List ActorText → ℕ → List ℕ
 actors_of actors device = filter (λ i. is_on_device device (slice_get actors i)) (range_with_len 0 (length actors))
 
--- an actor is a joystick
-abbrev pub is_joystick : Option ActorText → Bool
-is_joystick None = false
-is_joystick (Some actor) = is_joy actor.role
+-- an actor has such a role
+abbrev pub has_role : (Role → Bool) → Option ActorText → Bool
+has_role test None = false
+has_role test (Some actor) = test actor.role
 
--- an actor is an owner
-abbrev pub is_owning : Option ActorText → Bool
-is_owning None = false
-is_owning (Some actor) = is_owner actor.role
+-- it is neither a joystick nor an owner
+abbrev pub is_job : Role → Bool
+is_job role = not (is_joy role || is_owner role)
 
--- those of them that are neither joysticks nor owners
-abbrev pub jobs_of : List ActorText → ℕ → List ℕ
-jobs_of actors device = filter (λ i. not (is_joystick (slice_get actors i) || is_owning (slice_get actors i))) (actors_of actors device)
-
--- those that are joysticks
-abbrev pub joysticks_of : List ActorText → ℕ → List ℕ
-joysticks_of actors device = filter (λ i. is_joystick (slice_get actors i)) (actors_of actors device)
-
--- those that are owners
-abbrev pub owners_of : List ActorText → ℕ → List ℕ
-owners_of actors device = filter (λ i. is_owning (slice_get actors i)) (actors_of actors device)
+-- those of them that have such a role
+abbrev pub actors_with : (Role → Bool) → List ActorText → ℕ → List ℕ
+actors_with test actors device = filter (λ i. has_role test (slice_get actors i)) (actors_of actors device)
 
 -- The result of a device: one job for each of its actors but joysticks and owners, in order, whose view has
 -- the device's slots.
 pub record IsRunOf (actors : List ActorText) (number : ℕ) (device : DeviceText) (run : Run) : Type 0 where
-  pub jobs : map (λ (job : JobView). job.actor) run.jobs ≡ jobs_of actors number
+  pub jobs : map (λ (job : JobView). job.actor) run.jobs ≡ actors_with is_job actors number
   pub views : (i : ℕ) (job : JobView) → slice_get run.jobs i ≡ Some job → IsSizedFor device.caps.slots job.view
 
 -- The result of a record: one run for each device, in order.
@@ -57,7 +49,7 @@ joy_actors joys = map (λ (joy : JoyJobView). joy.actor) joys
 -- The results of a record's joysticks: one job for each, device by device, and on a device in the order of
 -- its actors. In a record's text the actors of a device stand after it, so this is the order of the text.
 abbrev pub AreJoysOf : RecordView → List JoyJobView → Type 0
-AreJoysOf r joys = joy_actors joys ≡ flat_map (joysticks_of r.actors) (range_with_len 0 (length r.devices))
+AreJoysOf r joys = joy_actors joys ≡ flat_map (actors_with is_joy r.actors) (range_with_len 0 (length r.devices))
 
 -- the numbers of owners
 abbrev pub owner_actors : List OwnerView → List ℕ
@@ -65,4 +57,4 @@ owner_actors owners = map (λ (owner : OwnerView). owner.actor) owners
 
 -- The results of a record's owners: one for each, in the same order.
 abbrev pub AreOwnersOf : RecordView → List OwnerView → Type 0
-AreOwnersOf r owners = owner_actors owners ≡ flat_map (owners_of r.actors) (range_with_len 0 (length r.devices))
+AreOwnersOf r owners = owner_actors owners ≡ flat_map (actors_with is_owner r.actors) (range_with_len 0 (length r.devices))

@@ -24,10 +24,11 @@ use Rattle.inp_tool.specs.declared.outcome.Outcome.TheVariants.{Usage, Unread, T
 use Rattle.inp_tool.specs.declared.outcome.Outcome.TheVariants.{Played as WasPlayed, Migrated}
 use Rattle.inp_tool.specs.Edge.{Reads, Writes}
 use Rattle.inp_tool.specs.Streams.{StreamFile, file_of, stream_files, events_in, HoldEvents}
-use Rattle.inp_tool.specs.Outcome.{played_status, no_play, end_with}
+use Rattle.inp_tool.specs.Outcome.{played_status, end_with}
 use Rattle.inp_tool.specs.RecordFile.{IsRead, IsUnread, IsTooLong, HaveContents, IsParsed, IsAtStream, IsNext}
 use Rattle.inp_tool.specs.RecordFile.{HasNext, HasRecord}
-use Rattle.inp_tool.specs.Promise.{AskFor, NameFile, IsResultOf, IsNoRecord, HasCause, IsWrittenWhole, IsWritten, Promise}
+use Rattle.inp_tool.specs.Promise.{AskFor, NameFile, IsResultOf, IsNoRecord, HasCause, IsWrittenWhole}
+use Rattle.inp_tool.specs.Promise.{IsWritten, Promise}
 use Rattle.inp_tool.specs.Complete.{IsFaultless, IsThere, IsReadable, IsTold}
 use Rattle.inp_tool.specs.Complete.{made_summary, IsToldWhole, IsRewritten, IsComplete}
 use Rattle.inp_tool.proofs.MadeBounds.{asked-not_full}
@@ -52,8 +53,8 @@ each_behind P [] streams h = h
 each_behind P (stream ∷ front) streams h = each_behind P front streams h.1
 
 each_has : (files : List File) (its : List StreamFile) (contents : List (List ℕ))
-    (streams : List (List Stamped)) → HaveContents (IsThere files) its contents → HoldEvents its contents streams
-    → Each (HasStream files) its
+    (streams : List (List Stamped)) → HaveContents (IsThere files) its contents
+    → HoldEvents its contents streams → Each (HasStream files) its
 each_has files [] [] streams h e = tt
 each_has files (stream ∷ its) (bytes ∷ contents) [] h e = absurd e
 each_has files (stream ∷ its) (bytes ∷ contents) (stamps ∷ streams) h e = (
@@ -197,8 +198,8 @@ module _ (r : Reads) (file : List ℕ) (recorded : RecordView) (readable : IsRea
       let P : RecordView → Type 0 = λ p. HaveContents (IsRead r) (stream_files p.lines) h.is.contents in
       let contents =
       same_contents r readable.files
-      (stream_files readable.there.parsed.lines) readable.there.contents h.is.contents readable.told_files told
-      readable.there.loaded.read (subst P parsed h.is.loaded.read) in
+      (stream_files readable.there.parsed.lines) readable.there.contents h.is.contents readable.told_files
+      told readable.there.loaded.read (subst P parsed h.is.loaded.read) in
       let L : RecordView → Type 0 = λ p. HoldEvents (stream_files p.lines) h.is.contents h.is.streams in
       let C : List (List ℕ) → Type 0 =
       λ c. HoldEvents (stream_files readable.there.parsed.lines) c h.is.streams in

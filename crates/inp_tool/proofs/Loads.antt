@@ -119,7 +119,8 @@ module _ (files : Option (List File)) (before middle after : InputView) (told : 
       let takes = takes_parsed parsed mid line [] (rw h.whole) done.takes in
       let more : files_to parsed line ≡ files_to parsed (line + 1) =
       sym (files_after parsed line [] takes ∙ append-nil (files_to parsed line)) in
-      let Q : List StreamFile → Type 0 = λ fs. AreLoaded (IsRead (span files before middle)) fs h.contents h.streams in
+      let Q : List StreamFile → Type 0 =
+      λ fs. AreLoaded (IsRead (span files before middle)) fs h.contents h.streams in
       let here : P middle = record {
         contents = h.contents;
         streams = h.streams;

@@ -15,7 +15,8 @@ use Rattle.inp_tool.specs.declared.no_record.NoRecord.{NoRecord}
 use Rattle.inp_tool.specs.declared.no_record.NoRecord.TheVariants.{Unread, TooLong, Refused, NoMemory}
 use Rattle.inp_tool.specs.Edge.{InputView, Reads}
 use Rattle.inp_tool.specs.Streams.{StreamFile, file_of, stream_files}
-use Rattle.inp_tool.specs.RecordFile.{IsRead, IsLast, IsReadLast, IsUnread, IsTooLong, RanOut, CannotRead, HaveContents}
+use Rattle.inp_tool.specs.RecordFile.{IsRead, IsLast, IsReadLast, IsUnread, IsTooLong, RanOut, CannotRead}
+use Rattle.inp_tool.specs.RecordFile.{HaveContents}
 use Rattle.inp_tool.specs.RecordFile.{IsParsed, IsAtStream, IsNextStream, HasRecord, HasNoRecord}
 use Rattle.inp_tool.specs.RecordFile.{last_contents}
 use Rattle.inp_tool.specs.LoadedStreams.{TakesFiles, IsDone, CannotDo, IsStream, IsNoStream, IsLastOf}

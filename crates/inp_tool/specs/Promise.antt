@@ -53,10 +53,6 @@ pub record NameSuch (words : Arguments) (Is : List ℕ → Type 0) : Type 0 wher
 abbrev pub IsNoRecord : Reads → Refused → List ℕ → Type 0
 IsNoRecord r refused file = HasBadText r file refused ⊎ HasBadStream r file refused
 
--- memory ran out, and nothing was at fault before: the input is as it was, or no file was too long
-abbrev pub IsOutOfMemory : Reads → Type 0
-IsOutOfMemory r = (r.after ≡ r.before) ⊎ RanOut r
-
 -- The result of a record. Each job's replies are the one-thread device's at their places in one history, and
 -- its sight follows its lines. Each place of the history is in one sight, where joysticks' jobs are jobs too.
 -- What each owner was told is what its feedback calls took of what was sent to its device. On one thread the
@@ -100,13 +96,13 @@ pub record IsMade (words : Arguments) (r : Reads) (played : Played) (text : List
   pub owners : played.owners ≡ []
 
 -- Each outcome has its cause: where a file was not read, or is too long, it is FILE or that of a stream line. Memory may
--- run out anywhere, but never in place of a fault.
+-- run out anywhere, but never in place of a fault: the input is as it was, or no file was too long.
 abbrev pub HasCause : Arguments → Reads → Outcome → Type 0
 HasCause words r Usage = IsUsage words r
 HasCause words r Unread = NameSuch words (λ file. HasNext r file (IsUnread r))
 HasCause words r TooLong = NameSuch words (λ file. HasNext r file (IsTooLong r))
 HasCause words r (IsRefused refused text) = NameSuch words (IsNoRecord r refused) × (string_bytes text ≡ refused_text refused)
-HasCause words r NoMemory = IsOutOfMemory r
+HasCause words r NoMemory = (r.after ≡ r.before) ⊎ RanOut r
 HasCause words r (WasPlayed played text) = IsPlayed words r played text.items ⊎ IsMade words r played text.items
 HasCause words r (Migrated text) = IsMigrated words r text.items
 

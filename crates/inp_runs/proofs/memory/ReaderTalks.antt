@@ -3,6 +3,7 @@
 use Rattle.std.proofs.Common.{◌≡◌, List, [], ◌∷◌, ◌++◌, ◌∙◌, append_assoc, append-nil, refl, true, false, sym}
 use Rattle.std.proofs.Common.{inl}
 use Rattle.inp_script.proofs.Told.{call_kept}
+use Rattle.inp_recon.proofs.Answered.{view_after_answer-parts}
 use Rattle.inp_recon.proofs.Sizes.{IsSizedFor-after_event, length-keys_after_answer}
 use Rattle.inp_recon.proofs.Sizes.{length-switches_after_answer, length-leds_after_answer}
 use Rattle.inp_recon.proofs.Sizes.{length-axes_after_answer}
@@ -117,14 +118,14 @@ module _ (d : Description) where
   -- a view keeps its size
   pub sized-answered : (past : List Step) (x : Step) (view : View) → IsSizedFor d.slots view
       → IsSizedFor d.slots (view_after_answer view x (answer d past x).reply (answer d past x).cells)
-  unfolding view_after_answer
   sized-answered past x view h =
       let reply : Reply = (answer d past x).reply in
+      let parts = view_after_answer-parts view x reply (answer d past x).cells in
       record {
-        keys = length-keys_after_answer x reply view.keys h.keys;
-        switches = length-switches_after_answer x reply view.switches h.switches;
-        leds = length-leds_after_answer x reply view.leds h.leds;
-        axes = length-axes_after_answer x reply view.axes ∙ h.axes;
+        keys = rw parts (length-keys_after_answer x reply view.keys h.keys);
+        switches = rw parts (length-switches_after_answer x reply view.switches h.switches);
+        leds = rw parts (length-leds_after_answer x reply view.leds h.leds);
+        axes = rw parts (length-axes_after_answer x reply view.axes ∙ h.axes);
         cells = sized-answer d past x (answer d past x) view (inl refl) h.cells;
       }
 

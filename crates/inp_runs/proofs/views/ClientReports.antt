@@ -33,7 +33,8 @@ use Rattle.inp_script.specs.declared.sight.Sight.TheVariants.{Again as AgainSigh
 use Rattle.inp_script.specs.Client.{LineProgress, Turn, start_job, start_ends, job_after_start, after_next}
 use Rattle.inp_script.specs.Client.{mode_of}
 use Rattle.inp_script.specs.Client.{with_sight, with_stop, next_round, forced}
-use Rattle.inp_script.specs.Fold.{settled, after_first_call, client_fold}
+use Rattle.inp_script.specs.Folding.{settled, after_first_call}
+use Rattle.inp_script.specs.Fold.{client_fold}
 use Rattle.inp_script.proofs.ClientFolds.{next-folds, entries_of_next, start-folds}
 use Rattle.inp_script.proofs.Folds.{ArePlaced}
 use Rattle.inp_script.proofs.LineFolds.{folds-on, IsSilent, no_events, silent-fold}
@@ -343,7 +344,8 @@ module _ (d : Description) (h : List Step) (Q : ℕ → Type 0) (history : IsHis
     unused : is_use x ≡ false
     shut : is_open_step x ≡ false
 
-  idle : {x : Step} → ((view : View) (reply : Reply) → after_first_call d view x reply ≡ settled view)
+  idle : {x : Step}
+      → ((view : View) (reply : Reply) → after_first_call (λ v. v) d view x reply ≡ settled view)
       → ((past : List Step) → (accepted d past x).events ≡ []) → is_use x ≡ false
       → is_open_step x ≡ false → IsIdle x
   idle alone unread unused shut =

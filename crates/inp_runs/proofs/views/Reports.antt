@@ -27,8 +27,9 @@ use Rattle.inp_model.specs.Event.{is_repeat}
 use Rattle.inp_model.specs.Queue.{event_of, taken_by, took}
 use Rattle.inp_model.specs.Raw.{raw}
 use Rattle.inp_recon.specs.View.{bits_in, first_view, view_after_event, view_after_events, view_after_answer}
-use Rattle.inp_recon.specs.View.{key_count, code_count, with_flag, flags_after_reply, keys_after_answer}
-use Rattle.inp_recon.specs.View.{switches_after_answer, leds_after_answer}
+use Rattle.inp_recon.specs.View.{key_count, code_count, with_flag, flags_after_reply}
+use Rattle.inp_recon.proofs.Answered.{keys_after_answer, switches_after_answer, leds_after_answer}
+use Rattle.inp_recon.proofs.Answered.{view_after_answer-parts}
 use Rattle.inp_recon.specs.ClientView.{ReadEntry, client_view, client_view_with, read_entries}
 use Rattle.inp_recon.specs.ClientView.{read_entries_with, view_at}
 use Rattle.inp_recon.proofs.ReadEntries.{entry-before, entry-kept}
@@ -239,12 +240,13 @@ module _ (d : Description) (past : List Step) where
   -- where a device has no keys, switches or LEDs, the answer to their query tells of none
   pub no-others-answer : (v : View) (x : Step) (cells : List ℤ) → HasNoOthers d v
       → HasNoOthers d (view_after_answer v x (answer d past x).reply cells)
-  unfolding view_after_answer
-  no-others-answer v x cells s = record {
-    keys = λ none. keys-none x v.keys none (s.keys none);
-    switches = λ none. switches-none x v.switches none (s.switches none);
-    leds = λ none. leds-none x v.leds none (s.leds none);
-  }
+  no-others-answer v x cells s =
+      rw (view_after_answer-parts v x (answer d past x).reply cells)
+      (record {
+        keys = λ none. keys-none x v.keys none (s.keys none);
+        switches = λ none. switches-none x v.switches none (s.switches none);
+        leds = λ none. leds-none x v.leds none (s.leds none);
+      })
 
 no-others-client : (d : Description) (past : List Step) (client : ℕ) → IsHistory d past
     → HasNoOthers d (client_view d past client)

@@ -1,6 +1,6 @@
 use Rattle.std.proofs.Common.{◌≡◌, ◌<◌, ℕ, ◌++◌, ◌∷◌, [], length, Ok, sym, ap, ◌∙◌, rules, arith}
 use Rattle.inp_model.specs.declared.event.Event.{Event}
-use Rattle.inp_stream.specs.Stream.{record_len, decoded}
+use Rattle.inp_stream.specs.Stream.{decoded}
 use Rattle.inp_stream.specs.Form.{time_len}
 use Rattle.inp_record.specs.Stream.{stamps_of}
 use Rattle.inp_record.proofs.Stamps.{decoded_is, rest_refused, none_left, none_yet, pushed_in_time, stamp_of}

@@ -1,4 +1,4 @@
-use Rattle.std.proofs.Common.{◌≡◌, ℕ, List, [], ◌∷◌, ◌∙◌, length, get_or, refl, arith, None}
+use Rattle.std.proofs.Common.{get_or, refl, arith, None}
 use Rattle.std.proofs.lemmas.Bool.Decides.{nat_tests}
 use Rattle.std.proofs.lemmas.List.{take_all, nil_from_length}
 use Rattle.inp_script.proofs.Batches.{no_stamped, entered-more, noted-anew}
