@@ -59,7 +59,8 @@ pub use Rattle.inp_script.specs.declared.sight.Sight.{Sight}
 pub use Rattle.inp_script.specs.declared.sight.Sight.TheVariants.{Took}
 pub use Rattle.inp_script.specs.declared.stop.Stop.{Stop}
 pub use Rattle.inp_script.specs.declared.waiting.Waiting.{Waiting}
-pub use Rattle.inp_runs.specs.Job.{AreTold, call_lacks_memory, entries_at, last_talk, lines_by, lines_talk}
+pub use Rattle.inp_runs.specs.Apart.{entries_at}
+pub use Rattle.inp_runs.specs.Job.{AreTold, call_lacks_memory, last_talk, lines_by, lines_talk}
 pub use Rattle.inp_runs.specs.Job.{on_job}
 pub use Rattle.inp_runs.specs.JobViews.{AgreesIn, LastRead, ShowsAt, index_in_history, is_read_as, reads_as}
 pub use Rattle.inp_runs.specs.Owner.{rooms_of}

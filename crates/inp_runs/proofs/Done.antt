@@ -1,39 +1,36 @@
 -- What comes of a device whose actors did all their lines is promised.
-use Rattle.std.proofs.Common.{◌≡◌, ℕ, ◌<◌, ◌≤◌, Bool, true, not, ◌||◌, if◌then◌else◌, nat_lt, List, [], ◌∷◌}
-use Rattle.std.proofs.Common.{length, map, reverse, refl, sym, ap, subst, ◌∙◌, arith, inl, inr, Option, Some}
-use Rattle.std.proofs.Common.{None}
+use Rattle.std.proofs.Common.{◌≡◌, ℕ, ◌<◌, ◌≤◌, Bool, true, if◌then◌else◌, nat_lt, List, [], ◌∷◌, length}
+use Rattle.std.proofs.Common.{map, take, reverse, suc, refl, sym, subst, ◌∙◌, arith, inl, inr, Option, Some, None}
 use Rattle.inp_model.specs.Description.{IsDescription}
-use Rattle.inp_script.specs.Job.{job_end, joy_end, owner_end}
-use Rattle.inp_runs.specs.Job.{FollowsLines, IsJob, IsJoyJob, IsRun, wait_of}
-use Rattle.inp_runs.specs.JobViews.{AreReportsSeen}
-use Rattle.inp_runs.specs.Owner.{IsOwner}
-use Rattle.inp_runs.proofs.Common.{filter, range_with_len, sum_by, nat_tests, same_Some, slice_get-map}
-use Rattle.inp_runs.proofs.Common.{slice_get_within, Step, Description, eaten, IsHistory, past_at, Call}
-use Rattle.inp_runs.proofs.Common.{HasPlace, IsLegalFrom, place_of, next_place, ActorText, Line, Role, Joy}
-use Rattle.inp_runs.proofs.Common.{Owner, is_joy, is_owner, RecordView, IsRecord, Talk, Waiting, ActorView}
-use Rattle.inp_runs.proofs.Common.{Job, JobView, JoyJobView, OwnerView, first_job, lines_by, lines_talk}
-use Rattle.inp_runs.proofs.Common.{entries_at, AreTold, rooms_of}
+use Rattle.inp_model.specs.Event.{is_report}
+use Rattle.inp_script.specs.Job.{job_end}
+use Rattle.inp_runs.specs.Job.{FollowsLines, IsRun, calls_at, wait_of}
+use Rattle.inp_runs.specs.JobViews.{IsEventTaken, IsOwnEvent, IsSeenAt, sight_view}
+use Rattle.inp_runs.specs.Losses.{HasLossCause}
+use Rattle.inp_runs.proofs.Common.{range_with_len, sum_by, nat_tests, same_Some, slice_get-map}
+use Rattle.inp_runs.proofs.Common.{slice_get_within, Taken, Step, Description, eaten, IsHistory, past_at, Call}
+use Rattle.inp_runs.proofs.Common.{HasPlace, IsLegalFrom, place_of, next_place, ActorText, Line, Role}
+use Rattle.inp_runs.proofs.Common.{RecordView, IsRecord, Talk, Waiting, ActorView, AgreesIn, reads_as, Sight}
+use Rattle.inp_runs.proofs.Common.{Job, first_job, lines_by, lines_talk, entries_at, AreTold}
 use Rattle.std.specs.Prelude.{slice_get}
 use Rattle.inp_actors.specs.declared.device_text.DeviceText.{DeviceText}
+use Rattle.inp_recon.specs.ClientView.{ReadEntry, view_at}
+use Rattle.inp_recon.specs.Synchronised.{is_dropped, is_synchronised}
 use Rattle.inp_recon.proofs.FaithfulHistories.{faithful_by_reads}
 use Rattle.inp_recon.proofs.FaithfulReads.{reads-faithful}
 use Rattle.inp_runs.proofs.losses.Causes.{all_taken-caused}
 use Rattle.inp_reader.proofs.Calls.{IsPlaceOf}
 use Rattle.inp_reader.proofs.LessEffort.{place-below}
-use Rattle.inp_script.specs.Ended.{ended_of, jobs_among, joys_among, owners_among}
-use Rattle.inp_script.specs.Runs.{is_on_device, has_role, is_job, actors_of, actors_with, joy_actors}
-use Rattle.inp_script.specs.Runs.{owner_actors, IsRunOf}
-use Rattle.inp_runs.specs.Done.{HasFollowed, IsDeviceDone, IsRunAsPromised, calls_at}
-use Rattle.inp_runs.proofs.Entries.{entries, told-counts}
+use Rattle.inp_script.specs.Ended.{ended_of}
+use Rattle.inp_script.specs.Runs.{is_on_device, actors_of}
+use Rattle.inp_runs.specs.Done.{HasFollowed, IsDeviceDone}
+use Rattle.inp_runs.proofs.Entries.{told-counts}
 use Rattle.inp_runs.proofs.views.Folded.{its_lines, view-folded}
-use Rattle.inp_runs.proofs.JobEnds.{OwnersCountNothing, is_stick, is_feeding, is_other, joy-role, owner-role}
-use Rattle.inp_runs.proofs.JobEnds.{jobs-kept, joys-kept, owners-kept, job-end_of, joy-end_of, owner-end_of}
-use Rattle.inp_runs.proofs.JobEnds.{split-sums, sum-ends, end-numbers}
+use Rattle.inp_runs.proofs.JobEnds.{sum-ends}
 use Rattle.inp_runs.proofs.JobTold.{job-told}
 use Rattle.inp_runs.proofs.views.JobViews.{IsShown, job-shown}
 use Rattle.inp_runs.proofs.memory.ReaderTalks.{AreAnswered}
-use Rattle.inp_runs.proofs.Lists.{IsAt, IsImage, filter-same, map-filter, option_map-some, slice_get-filter}
-use Rattle.inp_runs.proofs.owners.OwnerTalks.{owner-silent}
+use Rattle.inp_runs.proofs.Lists.{IsAt, IsImage, option_map-some, slice_get-filter}
 use Rattle.inp_runs.proofs.memory.Memory.{answered-memory, gives_up-lines, talk-answered}
 use Rattle.inp_runs.proofs.owners.Owners.{AreCallsOf, Counts, HasOwners, calls-of, counts-place, has-one}
 use Rattle.inp_runs.proofs.owners.Owners.{history-of-jobs, short-history}
@@ -52,6 +49,27 @@ place-within d history least place (call ∷ calls) legal (inl same) =
     (omega (arith, same.1, here), omega (arith, same.1, below))
 place-within d history least place (call ∷ calls) legal (inr h) =
     place-within d history (next_place call.answer.reply) place calls legal.2 h
+
+-- an event that is its client's own, is shown at a report and has a cause at a loss is taken so
+event-taken : (d : Description) (history : List Step) (role : Role) (sight : List Sight) (taken : Taken)
+    → IsOwnEvent d history sight taken
+    → (is_report taken.event ≡ true → IsSeenAt d history role sight taken)
+    → (is_dropped taken.event ≡ true → HasLossCause d history sight taken)
+    → IsEventTaken d history role sight taken
+event-taken d history role sight taken own seen caused = record {
+  index = own.index;
+  is_own = own.is_own;
+  at = own.at;
+  is_at = own.is_at;
+  is_taken = own.is_taken;
+  agrees = λ report.
+      let s = seen report in
+      let index : s.index ≡ own.index = same_Some s.index own.index (sym s.is_own ∙ own.is_own) in
+      let at : s.at ≡ own.at = same_Some s.at own.at (sym s.is_at ∙ rw index own.is_at) in
+      subst (λ (e : ReadEntry). is_synchronised d e.before (reads_as sight) e.taken ≡ true
+      → AgreesIn d (sight_view role d history sight) (view_at d (reads_as sight) e)) at s.agrees;
+  caused = caused;
+}
 
 module _ (r : RecordView) (d : Description) (wait : Option Waiting) (history : List Step) (text : ActorText)
     (a : ActorView) (is_record : IsRecord r) (is_text : slice_get r.actors a.actor ≡ Some text)
@@ -72,8 +90,10 @@ module _ (r : RecordView) (d : Description) (wait : Option Waiting) (history : L
       job-told text.role d r.streams wait f.rounds
       (lines_by a.actor r.lines) a.job f.calls followed-answered f.follows
 
-  done : FollowsLines r d wait history text.role a.actor a.job
-  done = record {
+  -- what it did is promised, by what its sight shows
+  followed : IsShown d history text.role a.job → FollowsLines r d wait history text.role a
+  followed shown = record {
+    is_role = f.is_role;
     calls = f.calls;
     legal = f.legal;
     memory = answered-memory d f.calls followed-answered;
@@ -82,15 +102,12 @@ module _ (r : RecordView) (d : Description) (wait : Option Waiting) (history : L
     follows = f.follows;
     folded =
         view-folded r d history wait f.rounds a.actor text a.job f.calls is_record is_text f.legal f.follows;
+    sized = λ other. shown.sized (rw other);
+    took = λ k taken at.
+        event-taken d history text.role (take (suc k) a.job.sight) taken (shown.own k taken at)
+        (shown.seen k taken at) (shown.losses k taken at);
+    owned = f.owned;
   }
-
-  job-is : IsShown d history text.role a.job → IsJob r d wait history text.role (job_end a)
-  job-is shown =
-      record { last = a.job; done = done; own = shown.own; losses = shown.losses; ended = refl }
-
-  -- a joystick's is the same of its picture
-  joy_job-is : text.role ≡ Joy → IsJoyJob r d wait history (joy_end a)
-  joy_job-is joy = record { last = a.job; done = rw joy at done; ended = refl }
 
 -- The actors of a device
 
@@ -101,7 +118,7 @@ record IsActorOf (r : RecordView) (i : ℕ) (d : Description) (wait : Option Wai
   is_text : slice_get r.actors a.actor ≡ Some text
   followed : HasFollowed r d wait history text.role a
 
-its_text : (i : ℕ) (o : Option ActorText) → is_on_device i o ≡ true → (text : ActorText) × (o ≡ Some text)
+pub its_text : (i : ℕ) (o : Option ActorText) → is_on_device i o ≡ true → (text : ActorText) × (o ≡ Some text)
 its_text i None h = absurd cc
 its_text i (Some text) h = (text, refl)
 
@@ -121,14 +138,6 @@ shown-of r i d wait history actors k a is_record owners is its =
     (job_end a) its.text wait f.rounds a.job f.calls is_record owners
     (rw (slice_get-map, is)) its.is_text f.legal
     (followed-told r d wait history its.text a is_record its.is_text f) f.follows
-
--- a job's role is that of the actor that it names
-same_text : (r : RecordView) (i : ℕ) (d : Description) (wait : Option Waiting) (history : List Step)
-    (job : JobView) (text : ActorText) (a : ActorView) (its : IsActorOf r i d wait history a)
-    → job_end a ≡ job → slice_get r.actors job.actor ≡ Some text → its.text ≡ text
-same_text r i d wait history job text a its same is_text =
-    let actor_is : job.actor ≡ a.actor = rw (← same) in
-    same_Some its.text text (rw (← its.is_text, ← actor_is) is_text)
 
 module _ (idle : Option ℕ) (r : RecordView) (i : ℕ) (d : Description) (history : List Step)
     (actors : List ActorView) (s : IsDeviceDone idle r i d history actors) where
@@ -194,122 +203,33 @@ module _ (idle : Option ℕ) (r : RecordView) (i : ℕ) (d : Description) (histo
     short = short-history d history described (within-limit is_record);
   }
 
-  -- an owner saw nothing, so that it counts at no place
-  owners-silent : (place : ℕ) → OwnersCountNothing (calls_at place) actors
-  owners-silent place = λ k a is owner.
-      let its = actor_of k a is in
-      let f = its.followed in
-      let role : its.text.role ≡ Owner = sym f.is_role ∙ owner-role a.role owner in
-      ap (entries place) (owner-silent d r.streams wait f.rounds (lines_by a.actor r.lines) a.job f.calls
-      (rw role at f.follows))
-
-  is_run : IsRecord r → IsDescription d
-      → IsRun r d wait (record { history = history; jobs = jobs_among (map ended_of actors) })
-      (joys_among (map ended_of actors))
-  is_run is_record described =
+  -- all promises on a device follow from what its actors did and from one call at each place
+  device_is : IsRecord r → IsDescription d
+      → IsRun idle r i d (record { history = history; ends = map ended_of actors })
+  device_is is_record described =
       let owners : HasOwners d history (map job_end actors) = owners-of is_record described in
       let past : IsHistory d (reverse history) = history-of-jobs d history (map job_end actors) owners in
       record {
         within = within-limit is_record;
-        jobs = λ k job text h is_text.
-            let e = job-end_of actors k job h in
-            let its = actor_of e.index e.actor e.is in
-            rw (same_text r i d wait history job text e.actor its e.same is_text) at
-            (rw e.same at
-            (job-is r d wait history its.text e.actor is_record its.is_text its.followed
-            (shown-of r i d wait history actors e.index e.actor is_record owners e.is its)));
-        joys = λ k joy h.
-            let e = joy-end_of actors k joy h in
-            let its = actor_of e.index e.actor e.is in
-            subst (IsJoyJob r d wait history) e.same
-            (joy_job-is r d wait history its.text e.actor is_record its.is_text its.followed
-            (sym its.followed.is_role ∙ joy-role e.actor.role e.passes));
         accepted = past;
         faithful =
             λ client. faithful_by_reads reads-faithful (eaten d) d (reverse history) client described past;
         losses = λ client. all_taken-caused d (reverse history) client;
-        seen = λ k job text h is_text.
-            let e = job-end_of actors k job h in
-            let its = actor_of e.index e.actor e.is in
-            let shown = shown-of r i d wait history actors e.index e.actor is_record owners e.is its in
-            rw (same_text r i d wait history job text e.actor its e.same is_text) at
-            (subst (λ (j : JobView). AreReportsSeen d history its.text.role j.sight) e.same shown.seen);
-        once = λ place. split-sums place actors (owners-silent place) ∙ sym (sum-ends place actors)
-            ∙ once-each is_record place;
+        actors = actors;
+        numbers = s.numbers;
+        each = λ k a text is is_text.
+            let its : IsActorOf r i d wait history a =
+            record { text = text; is_text = is_text; followed = s.each k a text is is_text } in
+            followed r d wait history text a is_record is_text its.followed
+            (shown-of r i d wait history actors k a is_record owners is its);
+        ended = refl;
+        once = λ place. sym (sum-ends place actors) ∙ once-each is_record place;
       }
 
-  -- a test of an actor's role keeps the same of the record's actors as of these
-  kept-numbers : (test : Role → Bool)
-      → map (λ (a : ActorView). a.actor) (filter (λ (a : ActorView). test a.role) actors)
-      ≡ actors_with test r.actors i
-  kept-numbers test =
-      let number : ActorView → ℕ = λ (a : ActorView). a.actor in
-      let in_record : ℕ → Bool = λ (n : ℕ). has_role test (slice_get r.actors n) in
-      let same : filter (λ (a : ActorView). test a.role) actors
-      ≡ filter (λ (a : ActorView). in_record a.actor) actors =
-      filter-same (λ (a : ActorView). test a.role) (λ (a : ActorView). in_record a.actor) actors (λ k a is.
-      let its = actor_of k a is in
-      ap test its.followed.is_role ∙ ap (has_role test) (sym its.is_text)) in
-      ap (map number) same ∙ map-filter number in_record actors ∙ ap (filter in_record) s.numbers
-
-  job-numbers : map (λ (job : JobView). job.actor) (jobs_among (map ended_of actors))
-      ≡ actors_with is_job r.actors i
-  job-numbers =
-      ap (map (λ (job : JobView). job.actor)) (jobs-kept actors)
-      ∙ end-numbers job_end (λ (job : JobView). job.actor) (λ a. refl) (filter is_other actors)
-      ∙ kept-numbers is_job
-
-  joy-numbers : joy_actors (joys_among (map ended_of actors)) ≡ actors_with is_joy r.actors i
-  joy-numbers =
-      ap joy_actors (joys-kept actors)
-      ∙ end-numbers joy_end (λ (joy : JoyJobView). joy.actor) (λ a. refl) (filter is_stick actors)
-      ∙ kept-numbers is_joy
-
-  owner-numbers : owner_actors (owners_among (map ended_of actors)) ≡ actors_with is_owner r.actors i
-  owner-numbers =
-      ap owner_actors (owners-kept actors)
-      ∙ end-numbers owner_end (λ (owner : OwnerView). owner.actor) (λ a. refl) (filter is_feeding actors)
-      ∙ kept-numbers is_owner
-
-  -- what came of an owner
-  is_owner_of : (k : ℕ) (owner : OwnerView) → slice_get (owners_among (map ended_of actors)) k ≡ Some owner
-      → IsOwner d history (rooms_of (lines_by owner.actor r.lines)) owner
-  is_owner_of k owner h =
-      let e = owner-end_of actors k owner h in
-      let a : ActorView = e.actor in
-      let its = actor_of e.index a e.is in
-      let role : its.text.role ≡ Owner = sym its.followed.is_role ∙ owner-role a.role e.passes in
-      let owned = its.followed.owned role in
-      rw (← e.same) (record { last = a.owning; owned = owned; ended = refl })
-
-is_run_of : (idle : Option ℕ) (r : RecordView) (i : ℕ) (device : DeviceText) (history : List Step)
-    (actors : List ActorView) → IsRecord r → IsDescription device.caps
-    → IsDeviceDone idle r i device.caps history actors
-    → IsRunOf r.actors i device (record { history = history; jobs = jobs_among (map ended_of actors) })
-is_run_of idle r i device history actors is_record described s = record {
-  jobs = job-numbers idle r i device.caps history actors s;
-  views = λ k job h.
-      let d : Description = device.caps in
-      let wait : Option Waiting = wait_of idle r i in
-      let e = job-end_of actors k job h in
-      let its = actor_of idle r i d history actors s e.index e.actor e.is in
-      let owners : HasOwners d history (map job_end actors) =
-      owners-of idle r i d history actors s is_record described in
-      let shown = shown-of r i d wait history actors e.index e.actor is_record owners e.is its in
-      let other : not (is_joy its.text.role || is_owner its.text.role) ≡ true =
-      rw (← its.followed.is_role) e.passes in
-      rw (← e.same) (shown.sized other);
-}
-
--- all promises on a device follow from what its actors did and from one call at each place
+-- so the result of a device whose actors did all their lines is promised
 pub device-promised : (idle : Option ℕ) (r : RecordView) (i : ℕ) (device : DeviceText) (history : List Step)
     (actors : List ActorView) → IsRecord r → IsDescription device.caps
     → IsDeviceDone idle r i device.caps history actors
-    → IsRunAsPromised idle r i device (record { history = history; ends = map ended_of actors })
-device-promised idle r i device history actors is_record described s = record {
-  run_of = is_run_of idle r i device history actors is_record described s;
-  joys_of = joy-numbers idle r i device.caps history actors s;
-  owners_are = owner-numbers idle r i device.caps history actors s;
-  is_run = is_run idle r i device.caps history actors s is_record described;
-  owners = λ k owner h. is_owner_of idle r i device.caps history actors s k owner h;
-}
+    → IsRun idle r i device.caps (record { history = history; ends = map ended_of actors })
+device-promised idle r i device history actors is_record described s =
+    device_is idle r i device.caps history actors s is_record described

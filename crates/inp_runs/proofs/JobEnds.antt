@@ -2,13 +2,13 @@
 use Rattle.std.proofs.Common.{◌≡◌, ℕ, suc, ◌+◌, Bool, true, not, ◌||◌, if◌then◌else◌, cond, List, [], ◌∷◌}
 use Rattle.std.proofs.Common.{map, refl, sym, ap, ◌∙◌, arith, Some}
 use Rattle.inp_script.specs.Job.{job_end, joy_end, owner_end}
-use Rattle.inp_runs.specs.Job.{joy_entries_at}
+use Rattle.inp_runs.specs.Apart.{joy_entries_at}
 use Rattle.inp_runs.proofs.Common.{filter, sum_by, slice_get-map, Role, Joy, Owner, is_joy, is_owner}
 use Rattle.inp_runs.proofs.Common.{ActorView, JobView, JoyJobView, OwnerView, entries_at}
 use Rattle.std.specs.Prelude.{slice_get}
 use Rattle.std.proofs.lemmas.List.Sums.{sum_by-cons}
 use Rattle.inp_script.specs.Ended.{ended_as, ended_of, jobs_among, joys_among, owners_among}
-use Rattle.inp_runs.specs.Done.{calls_at}
+use Rattle.inp_runs.specs.Job.{calls_at}
 use Rattle.inp_runs.proofs.Entries.{entries}
 use Rattle.inp_runs.proofs.Lists.{IsAt, IsImage, option_map-some, slice_get-filter, sum_by-kept}
 

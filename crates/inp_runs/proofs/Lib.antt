@@ -9,6 +9,8 @@ pub mod JobTold
 pub mod JobEnds
 pub mod Done
 pub mod Played
+pub mod Apart
+pub mod Results
 pub mod EventLines
 pub mod CalledLines
 pub mod DoingAll

@@ -3,7 +3,8 @@
 use Rattle.std.proofs.Common.{◌≡◌, ℕ, zero, suc, ◌+◌, ◌<◌, Bool, true, false, List, [], ◌∷◌, ◌++◌, length}
 use Rattle.std.proofs.Common.{map, refl, sym, ap, subst, ◌∙◌, arith, add-zero, zero-add, append-nil, ◌⊎◌, inl}
 use Rattle.std.proofs.Common.{inr, Option, Some, None}
-use Rattle.inp_runs.specs.Job.{ArePromised, joys_on}
+use Rattle.inp_runs.specs.Apart.{AreApart, IsRunAsPromised, joys_on}
+use Rattle.inp_runs.specs.Job.{ArePromised, IsRun}
 use Rattle.inp_runs.specs.Owner.{IsOwner}
 use Rattle.inp_runs.proofs.Common.{filter, range_with_len, length-map, map-append, filter-append, same_Some}
 use Rattle.inp_runs.proofs.Common.{slice_get-map, slice_get_within, ActorText, RecordView, JoyJobView}
@@ -14,7 +15,6 @@ use Rattle.inp_script.specs.declared.run.DeviceEnds.{DeviceEnds}
 use Rattle.inp_script.specs.declared.run.Run.{Run}
 use Rattle.inp_script.specs.Ended.{ended_run, joys_among, owners_among, played_of}
 use Rattle.inp_script.specs.Runs.{is_on_device, has_role, actors_of, actors_with, joy_actors, IsRunOf}
-use Rattle.inp_runs.specs.Done.{IsRunAsPromised}
 use Rattle.inp_runs.proofs.Lists.{IsAt, IsImage, eq_false, filter-all, filter-none, option_map-some}
 use Rattle.inp_runs.proofs.Lists.{slice_get-filter, there-is}
 
@@ -191,10 +191,18 @@ module _ (actors : List ActorText) where
 
 -- All devices
 
-abbrev AllRunsPromised : Option ℕ → RecordView → List DeviceEnds → Type 0
-AllRunsPromised idle r done =
+abbrev AllRunsApart : Option ℕ → RecordView → List DeviceEnds → Type 0
+AllRunsApart idle r done =
     (i : ℕ) (device : DeviceText) (run : DeviceEnds) → slice_get r.devices i ≡ Some device
     → slice_get done i ≡ Some run → IsRunAsPromised idle r i device run
+
+-- what is promised of each device is promised of the record
+pub all-promised : (idle : Option ℕ) (r : RecordView) (done : List DeviceEnds) → length done ≡ length r.devices
+    → ((i : ℕ) (device : DeviceText) (run : DeviceEnds) → slice_get r.devices i ≡ Some device
+    → slice_get done i ≡ Some run → IsRun idle r i device.caps run)
+    → ArePromised idle r (played_of done)
+all-promised idle r done long each =
+    record { devices = done; is_played = refl; count = long; each = each }
 
 -- each device has its text
 text-at : {X Y : Type 0} (xs : List X) (ys : List Y) (i : ℕ) (x : X) → length xs ≡ length ys
@@ -207,7 +215,7 @@ pub on_this : (device : ℕ) (o : Option ActorText) (text : ActorText) → is_on
 on_this device o text h is = eqb-true text.device device (sym (rw is) ∙ h)
 
 module _ (idle : Option ℕ) (r : RecordView) (done : List DeviceEnds) (long : length done ≡ length r.devices)
-    (each : AllRunsPromised idle r done) where
+    (each : AllRunsApart idle r done) where
   -- what came of an owner of the record
   is_owner_of : (k : ℕ) (owner : OwnerView) (text : ActorText) (device : DeviceText) (run : Run)
       → slice_get (flat_map its_owners done) k ≡ Some owner → slice_get r.actors owner.actor ≡ Some text
@@ -229,8 +237,8 @@ module _ (idle : Option ℕ) (r : RecordView) (done : List DeviceEnds) (long : l
       same_run (promised.owners p.place owner p.there))
 
   -- a record's results are those of its devices, in order, and so are the promises on them
-  pub all-promised : ArePromised idle r (played_of done)
-  all-promised = record {
+  pub all-apart : AreApart idle r (played_of done)
+  all-apart = record {
     runs_of = record {
       devices = length-map done its_run ∙ long;
       each = λ i text run is_text is_run.

@@ -1,7 +1,7 @@
 -- What stands when the actors of a device have done all their lines, in whatever order their steps were made.
 -- It is shown that this is all that is promised of the device (docs/PROMISES.md).
 use Rattle.std.specs.Prelude.{ℕ, ◌≡◌, ◌<◌, List, length, map, slice_get, Option, Some}
-use Rattle.std.specs.List.{count_by, sum_by}
+use Rattle.std.specs.List.{sum_by}
 use Rattle.inp_model.specs.declared.step.Step.{Step}
 use Rattle.inp_model.specs.Description.{Description, IsDescription}
 use Rattle.inp_model.specs.Run.{Call, IsLegalRun}
@@ -11,16 +11,15 @@ use Rattle.inp_actors.specs.declared.command.Command.TheVariants.{Feedback as To
 use Rattle.inp_actors.specs.declared.line.Line.{Line}
 use Rattle.inp_actors.specs.declared.role.Role.{Role}
 use Rattle.inp_actors.specs.declared.role.Role.TheVariants.{Owner}
-use Rattle.inp_actors.specs.Command.{is_joy, is_owner}
 use Rattle.inp_actors.specs.Record.{RecordView, IsRecord}
 use Rattle.inp_reader.specs.Talk.{EndsWith}
 use Rattle.inp_script.specs.declared.run.DeviceEnds.{DeviceEnds}
 use Rattle.inp_script.specs.declared.waiting.Waiting.{Waiting}
-use Rattle.inp_script.specs.Job.{ActorView, OwnerView, first_job}
-use Rattle.inp_script.specs.Runs.{actors_of, actors_with, joy_actors, owner_actors, IsRunOf}
-use Rattle.inp_script.specs.Ended.{HasDeviceSlots, ended_of, ended_run, joys_among, owners_among, played_of}
-use Rattle.inp_runs.specs.Owner.{rooms_of, HasOwned, IsOwner}
-use Rattle.inp_runs.specs.Job.{lines_by, lines_talk, is_entry_at, wait_of, IsRun, ArePromised}
+use Rattle.inp_script.specs.Job.{ActorView, first_job}
+use Rattle.inp_script.specs.Runs.{actors_of}
+use Rattle.inp_script.specs.Ended.{HasDeviceSlots, ended_of, played_of}
+use Rattle.inp_runs.specs.Owner.{rooms_of, HasOwned}
+use Rattle.inp_runs.specs.Job.{lines_by, lines_talk, calls_at, wait_of, IsRun, ArePromised}
 
 -- An actor did all its lines: its calls are a legal run of the device's history, and its job is what its
 -- lines and the answers to these calls make. Its view has the device's slots, if its result has a view. Where
@@ -34,10 +33,6 @@ pub record HasFollowed (r : RecordView) (d : Description) (wait : Option Waiting
   pub cells : HasDeviceSlots d (ended_of a)
   pub owned : role ≡ Owner → HasOwned d history (rooms_of (lines_by a.actor r.lines)) a.owning
 
--- how many accepted calls at this place an actor's sight tells of
-abbrev pub calls_at : ℕ → ActorView → ℕ
-calls_at place a = count_by (is_entry_at place) a.job.sight
-
 -- The actors of the device of this number did all their lines, and each place of its history is the place of
 -- one accepted call of one of them.
 pub record IsDeviceDone (idle : Option ℕ) (r : RecordView) (i : ℕ) (d : Description) (history : List Step) (actors : List ActorView) : Type 0 where
@@ -45,28 +40,19 @@ pub record IsDeviceDone (idle : Option ℕ) (r : RecordView) (i : ℕ) (d : Desc
   pub each : (k : ℕ) (a : ActorView) (text : ActorText) → slice_get actors k ≡ Some a → slice_get r.actors a.actor ≡ Some text → HasFollowed r d (wait_of idle r i) history text.role a
   pub once : (place : ℕ) → place < length history → sum_by (calls_at place) actors ≡ 1
 
--- All that is promised of the result of the device of this number.
-pub record IsRunAsPromised (idle : Option ℕ) (r : RecordView) (i : ℕ) (device : DeviceText) (done : DeviceEnds) : Type 0 where
-  pub run_of : IsRunOf r.actors i device (ended_run done)
-  pub joys_of : joy_actors (joys_among done.ends) ≡ actors_with is_joy r.actors i
-  pub owners_are : owner_actors (owners_among done.ends) ≡ actors_with is_owner r.actors i
-  pub is_run : IsRun r device.caps (wait_of idle r i) (ended_run done) (joys_among done.ends)
-  pub owners : (k : ℕ) (owner : OwnerView) → slice_get (owners_among done.ends) k ≡ Some owner
-      → IsOwner device.caps done.history (rooms_of (lines_by owner.actor r.lines)) owner
-
 -- the result of a device whose actors did all their lines is promised
 abbrev pub DevicesDoneArePromised : Type 0
 DevicesDoneArePromised =
     (idle : Option ℕ) (r : RecordView) (i : ℕ) (device : DeviceText) (history : List Step) (actors : List ActorView)
     → IsRecord r → IsDescription device.caps → IsDeviceDone idle r i device.caps history actors
-    → IsRunAsPromised idle r i device (record { history = history; ends = map ended_of actors })
+    → IsRun idle r i device.caps (record { history = history; ends = map ended_of actors })
 
 -- the devices of a record know nothing of each other: what is promised of each is promised of all
 abbrev pub AllAsPromised : Type 0
 AllAsPromised =
     (idle : Option ℕ) (r : RecordView) (done : List DeviceEnds)
     → length done ≡ length r.devices
-    → ((i : ℕ) (device : DeviceText) (ended : DeviceEnds) → slice_get r.devices i ≡ Some device → slice_get done i ≡ Some ended → IsRunAsPromised idle r i device ended)
+    → ((i : ℕ) (device : DeviceText) (ended : DeviceEnds) → slice_get r.devices i ≡ Some device → slice_get done i ≡ Some ended → IsRun idle r i device.caps ended)
     → ArePromised idle r (played_of done)
 
 -- Each line of an owner is a feedback call, so that none is without its room.

@@ -16,13 +16,14 @@ use Rattle.inp_recon.specs.declared.view.View.{View}
 use Rattle.inp_recon.specs.View.{first_view}
 use Rattle.inp_recon.specs.ClientView.{ReadEntry, read_entries, view_at}
 use Rattle.inp_recon.specs.Faithful.{IsReportOf, IsFollowed, IsDeviceState}
-use Rattle.inp_recon.specs.Synchronised.{has_axis, is_synchronised}
+use Rattle.inp_recon.specs.Synchronised.{has_axis, is_dropped, is_synchronised}
 use Rattle.inp_reader.specs.declared.reader.TheConstants.{NO_CLIENT}
 use Rattle.inp_script.specs.declared.sight.Sight.{Sight}
 use Rattle.inp_script.specs.declared.sight.Sight.TheVariants.{Call, Took}
 use Rattle.inp_script.specs.Folding.{Folding, settled, asking}
 use Rattle.inp_script.specs.Fold.{tap_fold, client_fold}
 use Rattle.inp_script.specs.Line.{tap_client_after}
+use Rattle.inp_runs.specs.LossCauses.{IsCausedAt}
 
 -- a sight goes on from this client
 abbrev pub client_after_entry : ℕ → Sight → ℕ
@@ -106,6 +107,21 @@ pub record AgreesIn (d : Description) (v w : View) : Type 0 where
   pub axes : (code : ℕ) → has_axis d code ≡ true → slice_index_or v.axes code (pos 0) ≡ slice_index_or w.axes code (pos 0)
   pub cells : v.cells ≡ w.cells
   pub slot : 0 < d.slots → v.slot ≡ w.slot
+
+-- What holds of an event that a job took, the last one of this sight. It is the one of its own index among those that
+-- the client took that the job reads as then. A history is written newest first there, and is called a past.
+pub record IsEventTaken (d : Description) (history : List Step) (role : Role) (sight : List Sight) (taken : Taken) : Type 0 where
+  -- which of the events that the client took
+  pub index : ℕ
+  pub is_own : index_in_history d history sight ≡ Some index
+  pub at : ReadEntry
+  pub is_at : slice_get (read_entries d (reverse history) (reads_as sight)) index ≡ Some at
+  pub is_taken : taken_of at.entry ≡ taken
+  -- at a report where the client is synchronised, the job's view agrees with the client's view in the history
+  pub agrees : is_report taken.event ≡ true → is_synchronised d at.before (reads_as sight) at.taken ≡ true
+      → AgreesIn d (sight_view role d history sight) (view_at d (reads_as sight) at)
+  -- the step at the place of a loss met a full ring of this client, or changed its clock while events were queued
+  pub caused : is_dropped taken.event ≡ true → IsCausedAt d (reverse history) (reads_as sight) taken.place
 
 -- An event is the one of its own index among those that a client took. Where the client is synchronised then,
 -- this view agrees with the client's view in the history. A history is written newest first, and is called a

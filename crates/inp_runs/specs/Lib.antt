@@ -3,6 +3,7 @@ pub mod IndexExamples
 pub mod Losses
 pub mod Owner
 pub mod Job
+pub mod Apart
 pub mod Done
 pub mod EventLines
 pub mod DoingAll

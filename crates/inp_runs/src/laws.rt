@@ -2,6 +2,7 @@
 ghost use Rattle.inp_runs.specs.OwnerExamples.{TakesTheBellOnce, StopsAtItsLimit};
 ghost use Rattle.inp_runs.specs.IndexExamples.{CountsBehindTheLastRead, TellsEqualEventsApart, CountsAcceptedReadsOfItsClient};
 ghost use Rattle.inp_runs.specs.Done.{AllAsPromised, DevicesDoneArePromised, OwnersLinesAreCalls};
+ghost use Rattle.inp_runs.specs.Apart.{PromisedAreApart};
 ghost use Rattle.inp_runs.specs.Job.{JobsShowTheDevice};
 ghost use Rattle.inp_runs.specs.LossCauses.{AreQueuedCaused, AreTakenCaused};
 ghost use Rattle.inp_runs.specs.Play.{HasOnePlay};
@@ -12,8 +13,8 @@ ghost use Rattle.inp_runs.specs.Promised.{EachPlayIsPromised};
 ///
 /// Let each actor's calls be a legal run of the device's history, and its job be what its lines and the answers to
 /// these calls make. Let its view, if its result has one, have the device's slots, and let each place of the history be
-/// one accepted call of one actor (`IsDeviceDone`). Then all that is promised of a run holds of the history and of the
-/// results of the actors (`IsRunAsPromised`), jobs and joysticks' jobs apart.
+/// one accepted call of one actor (`IsDeviceDone`). Then all that is promised of a device holds of the history and of
+/// the results of the actors (`IsRun`).
 pub fn devices_done_are_promised()
     ensures promised { DevicesDoneArePromised }
 {}
@@ -22,6 +23,12 @@ pub fn devices_done_are_promised()
 /// its contract is the point.
 pub fn all_as_promised()
     ensures promised { AllAsPromised }
+{}
+
+/// What was promised of jobs, joysticks and owners apart follows from what is promised. It does nothing: its contract is
+/// the point.
+pub fn promised_are_apart()
+    ensures apart { PromisedAreApart }
 {}
 
 /// At each report that a job took, its view up to then is the device's state at the end of that report's frame. This

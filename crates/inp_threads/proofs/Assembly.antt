@@ -14,8 +14,8 @@ use Rattle.inp_script.specs.Runs.{actors_of, is_on_device}
 use Rattle.inp_runs.proofs.Done.{device-promised}
 use Rattle.inp_runs.proofs.Lists.{IsAt, IsImage, eq_same, option_map-some, slice_get-filter}
 use Rattle.inp_port.specs.Entries.{is_step_at}
-use Rattle.inp_runs.specs.Done.{HasFollowed, IsDeviceDone, calls_at, IsRunAsPromised}
-use Rattle.inp_runs.specs.Job.{wait_of}
+use Rattle.inp_runs.specs.Done.{HasFollowed, IsDeviceDone}
+use Rattle.inp_runs.specs.Job.{IsRun, calls_at, wait_of}
 use Rattle.inp_threads.proofs.Common.{PassView, OwnsSeen, steps_among, step_places, HasWorked, HasOwnedLines}
 use Rattle.inp_threads.proofs.Common.{HasDoneLines, Waiting}
 use Rattle.inp_port.proofs.Places.{other_places-begins}
@@ -183,7 +183,7 @@ module _ {W : Type 0} (view : W → PassView Description UEntry) (actor : W → 
   -- and so all that is promised of the device holds
   pub done-promised : (idle : Option ℕ) (r : RecordView) (i : ℕ) (device : DeviceText) (entries : List UEntry)
       (ws : List W) → IsRecord r → IsDescription device.caps → AreAllDone idle r i device.caps entries ws
-      → IsRunAsPromised idle r i device
+      → IsRun idle r i device.caps
       (record { history = steps_among step_made entries; ends = map ended_of (map actor ws) })
   done-promised idle r i device entries ws is_record described h =
       device-promised idle r i device (steps_among step_made entries) (map actor ws) is_record described

@@ -10,7 +10,7 @@ use Rattle.std.proofs.lemmas.Bool.Decides.{nat_tests}
 use Rattle.std.proofs.lemmas.List.Sums.{sum_by-cons}
 use Rattle.inp_model.specs.Evdev.{own_after}
 use Rattle.inp_script.proofs.Common.{Reply, is_accepted, Call, place_of, ActorView, sight_of_calls}
-use Rattle.inp_runs.specs.Done.{calls_at}
+use Rattle.inp_runs.specs.Job.{calls_at}
 use Rattle.inp_runs.proofs.Entries.{entries, entries-cons_call}
 use Rattle.inp_model.specs.Leaves.{places_of}
 

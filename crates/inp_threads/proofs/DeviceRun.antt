@@ -9,7 +9,7 @@ use Rattle.std.proofs.lemmas.Simd.{map-map}
 use mathlib.Core.List.{IsPrefix}
 use Rattle.inp_script.proofs.Common.{UEntry, step_made, Description, IsDescription, DeviceText, RecordView}
 use Rattle.inp_script.proofs.Common.{IsRecord, ActorView, ended_of, played_of}
-use Rattle.inp_runs.specs.Job.{wait_of, ArePromised}
+use Rattle.inp_runs.specs.Job.{wait_of, ArePromised, IsRun}
 use Rattle.inp_turn.specs.PassView.{IsEachAddedOnce}
 use Rattle.inp_threads.specs.Worker.{view_in, IsWorked, HasPass}
 use Rattle.inp_threads.specs.Joined.{IsSizedWorker, AreSized, own_of, ends_of_workers}
@@ -21,7 +21,6 @@ use Rattle.inp_script.specs.Runs.{actors_of}
 use Rattle.inp_threads.proofs.Assembly.{AreAllDone, HasDoneAllLines, done-promised}
 use Rattle.std.proofs.lemmas.List.{length-map}
 use Rattle.inp_runs.proofs.Played.{all-promised}
-use Rattle.inp_runs.specs.Done.{IsRunAsPromised}
 use Rattle.inp_port.specs.Port.{description_of}
 use Rattle.inp_script.specs.declared.end.ended.Ended.{Ended}
 use Rattle.inp_script.specs.declared.run.DeviceEnds.{DeviceEnds}
@@ -94,7 +93,7 @@ module _ (idle i : ℕ) (r : RecordView) (device : DeviceText) (port : PortOf Ud
   -- each actor did all its lines, and each place of the entries is own to one of them
   pub left-promised : IsRecord r → IsDescription device.caps → (ends : List Ended)
       → ends ≡ ends_of_workers workers
-      → IsRunAsPromised (Some idle) r i device
+      → IsRun (Some idle) r i device.caps
       (record { history = steps_among step_made entries; ends = ends })
   left-promised is_record described ends ended =
       rw (map-map ended_of (λ (w : Worker). w.actor) workers, ← ended) at

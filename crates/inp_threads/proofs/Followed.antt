@@ -9,8 +9,8 @@ use Rattle.inp_script.proofs.Common.{Step, Description, ActorText, is_owner, Rec
 use Rattle.inp_script.proofs.Common.{step_made, ActorView, Job, first_job, BeginsWith, Call, IsLegalFrom}
 use Rattle.inp_script.proofs.Common.{ended_of, Owner, LeadsTo}
 use Rattle.inp_model.proofs.Leaves.{HasPlace-longer}
-use Rattle.inp_runs.specs.Done.{HasFollowed, calls_at}
-use Rattle.inp_runs.specs.Job.{is_entry_at, lines_by}
+use Rattle.inp_runs.specs.Done.{HasFollowed}
+use Rattle.inp_runs.specs.Job.{calls_at, is_entry_at, lines_by}
 use Rattle.inp_threads.proofs.Common.{rooms_of, PassView, OwnsSeen, steps_among, step_places, HasWorked}
 use Rattle.inp_threads.proofs.Common.{HasOwnedLines, Waiting}
 use Rattle.inp_runs.proofs.Done.{followed-told}

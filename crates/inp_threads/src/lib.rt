@@ -8,7 +8,7 @@
 //! Its contract: in whatever order the threads made their steps, each device has one history, in which each job's
 //! replies are the one-thread device's at their places. All else that is promised of runs holds too (`ArePromised` of
 //! `inp_runs`). An owner makes no step. Its feedback calls stand among the steps, each answered from what was kept
-//! before it (`IsOwner` of `inp_runs`). The results of joysticks and of owners are apart from those of the other jobs
+//! before it (`HasOwned` of `inp_runs`). The results of joysticks and of owners are apart from those of the other jobs
 //! (`Played` of `inp_script`). A line `follow` waits there for what other threads inject (`Waiting` of `inp_script`),
 //! at most through the number of answers `Again` that the caller names. A source whose lines are done says so by the
 //! step `End`.

@@ -17,6 +17,7 @@ use Rattle.inp_record.specs.declared.refused.Refused.{Refused as Refusal}
 use Rattle.inp_record.specs.Meaning.{meaning}
 use Rattle.inp_script.specs.declared.run.Played.{Played}
 use Rattle.inp_report.specs.Whole.{whole_report}
+use Rattle.inp_runs.proofs.Results.{promised-joys, promised-owners}
 use Rattle.inp_tool.specs.Upgrade.{upgraded}
 use Rattle.inp_tool.specs.declared.end.End.{End}
 use Rattle.inp_tool.specs.declared.outcome.Outcome.{Outcome}
@@ -365,14 +366,16 @@ when_made words r w end p number count asked no_write =
     elim (by_outcome_made words r w end p.found number count asked p.cause whole) [
       | inl lacks ↦ inl lacks
       | inr told ↦
-          let promised = told.came.promised in
-          let full = asked-not_full words number count told.played asked (told.came.in_order refl)
-          promised.joys_of promised.owners_of in
+          let made : RecordView = generated number count in
+          let joys = promised-joys None made told.played told.came.promised in
+          let owners = promised-owners None made told.played told.came.promised in
+          let full =
+          asked-not_full words number count told.played asked (told.came.in_order refl) joys owners in
           inr (record {
             told = told;
             status = rw (told.ended, full);
-            joys = rw told.ended (made-no_joys number count told.played.joys promised.joys_of);
-            owners = rw told.ended (made-no_owners number count told.played.owners promised.owners_of);
+            joys = rw told.ended (made-no_joys number count told.played.joys joys);
+            owners = rw told.ended (made-no_owners number count told.played.owners owners);
           })
     ]
 

@@ -20,8 +20,8 @@ use Rattle.inp_script.specs.declared.run.DeviceEnds.{DeviceEnds}
 use Rattle.inp_script.specs.declared.run.Played.{Played}
 use Rattle.inp_script.specs.Ended.{HasDeviceSlots, ended_as, played_of}
 use Rattle.inp_script.specs.Runs.{is_on_device}
-use Rattle.inp_runs.specs.Done.{IsDeviceDone, calls_at}
-use Rattle.inp_runs.specs.Job.{lines_talk, AreDescribed, ArePromised}
+use Rattle.inp_runs.specs.Done.{IsDeviceDone}
+use Rattle.inp_runs.specs.Job.{lines_talk, calls_at, AreDescribed, ArePromised}
 use Rattle.inp_runs.specs.Play.{play, first_actor, first_stage, after_lines, jobs_on, run_of, runs_of, IsPlay}
 use Rattle.inp_runs.proofs.Done.{device-promised}
 use Rattle.inp_runs.proofs.Lists.{option_map-some, slice_get-filter, slice_get-numbered, map-filter}
