@@ -49,7 +49,7 @@ pub use Rattle.inp_script.proofs.LineWalk.{LineRules, NotedBy, OfGoing, OfJob, O
 pub use Rattle.inp_script.proofs.LineWalk.{line-meets, read_so}
 pub use Rattle.inp_script.proofs.Told.{noted_sight}
 pub use Rattle.inp_script.specs.DoneLine.{line_talk, unless_stopped}
-pub use Rattle.inp_script.specs.Job.{ActorView, Job, JobView, JoyJobView, OwnerView, first_job, joying_of}
+pub use Rattle.inp_script.specs.Job.{ActorView, Job, JobView, first_job, joying_of}
 pub use Rattle.inp_script.specs.Legal.{is_call_entry, sight_of_calls}
 pub use Rattle.inp_script.specs.Line.{after_call, end_talk, source_talk, step_of, tap_call_if}
 pub use Rattle.inp_script.specs.Line.{tap_client_after, tap_talk}
@@ -59,9 +59,9 @@ pub use Rattle.inp_script.specs.declared.sight.Sight.{Sight}
 pub use Rattle.inp_script.specs.declared.sight.Sight.TheVariants.{Took}
 pub use Rattle.inp_script.specs.declared.stop.Stop.{Stop}
 pub use Rattle.inp_script.specs.declared.waiting.Waiting.{Waiting}
-pub use Rattle.inp_runs.specs.Apart.{entries_at}
 pub use Rattle.inp_runs.specs.Job.{AreTold, call_lacks_memory, last_talk, lines_by, lines_talk}
 pub use Rattle.inp_runs.specs.Job.{on_job}
-pub use Rattle.inp_runs.specs.JobViews.{AgreesIn, LastRead, ShowsAt, index_in_history, is_read_as, reads_as}
+pub use Rattle.inp_runs.specs.JobViews.{AgreesIn, LastRead, index_in_history, is_read_as, reads_as}
+pub use Rattle.inp_runs.proofs.views.Shown.{ShowsAt}
 pub use Rattle.inp_runs.specs.Owner.{rooms_of}
 pub use Rattle.inp_runs.specs.Play.{Stage, description_at}

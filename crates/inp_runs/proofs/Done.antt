@@ -1,17 +1,18 @@
 -- What comes of a device whose actors did all their lines is promised.
 use Rattle.std.proofs.Common.{◌≡◌, ℕ, ◌<◌, ◌≤◌, Bool, true, if◌then◌else◌, nat_lt, List, [], ◌∷◌, length}
-use Rattle.std.proofs.Common.{map, take, reverse, suc, refl, sym, subst, ◌∙◌, arith, inl, inr, Option, Some, None}
+use Rattle.std.proofs.Common.{map, take, reverse, suc, refl, sym, subst, ◌∙◌, arith, inl, inr, Option, Some}
+use Rattle.std.proofs.Common.{None}
 use Rattle.inp_model.specs.Description.{IsDescription}
 use Rattle.inp_model.specs.Event.{is_report}
 use Rattle.inp_script.specs.Job.{job_end}
 use Rattle.inp_runs.specs.Job.{FollowsLines, IsRun, calls_at, wait_of}
-use Rattle.inp_runs.specs.JobViews.{IsEventTaken, IsOwnEvent, IsSeenAt, sight_view}
-use Rattle.inp_runs.specs.Losses.{HasLossCause}
+use Rattle.inp_runs.specs.JobViews.{IsEventTaken, sight_view}
+use Rattle.inp_runs.proofs.views.Shown.{HasLossCause, IsOwnEvent, IsSeenAt}
 use Rattle.inp_runs.proofs.Common.{range_with_len, sum_by, nat_tests, same_Some, slice_get-map}
-use Rattle.inp_runs.proofs.Common.{slice_get_within, Taken, Step, Description, eaten, IsHistory, past_at, Call}
-use Rattle.inp_runs.proofs.Common.{HasPlace, IsLegalFrom, place_of, next_place, ActorText, Line, Role}
+use Rattle.inp_runs.proofs.Common.{slice_get_within, Taken, Step, Description, eaten, IsHistory, past_at}
+use Rattle.inp_runs.proofs.Common.{Call, HasPlace, IsLegalFrom, place_of, next_place, ActorText, Line, Role}
 use Rattle.inp_runs.proofs.Common.{RecordView, IsRecord, Talk, Waiting, ActorView, AgreesIn, reads_as, Sight}
-use Rattle.inp_runs.proofs.Common.{Job, first_job, lines_by, lines_talk, entries_at, AreTold}
+use Rattle.inp_runs.proofs.Common.{Job, first_job, lines_by, lines_talk, AreTold}
 use Rattle.std.specs.Prelude.{slice_get}
 use Rattle.inp_actors.specs.declared.device_text.DeviceText.{DeviceText}
 use Rattle.inp_recon.specs.ClientView.{ReadEntry, view_at}
@@ -24,7 +25,7 @@ use Rattle.inp_reader.proofs.LessEffort.{place-below}
 use Rattle.inp_script.specs.Ended.{ended_of}
 use Rattle.inp_script.specs.Runs.{is_on_device, actors_of}
 use Rattle.inp_runs.specs.Done.{HasFollowed, IsDeviceDone}
-use Rattle.inp_runs.proofs.Entries.{told-counts}
+use Rattle.inp_runs.proofs.Entries.{entries_at, told-counts}
 use Rattle.inp_runs.proofs.views.Folded.{its_lines, view-folded}
 use Rattle.inp_runs.proofs.JobEnds.{sum-ends}
 use Rattle.inp_runs.proofs.JobTold.{job-told}

@@ -4,8 +4,9 @@ use Rattle.std.proofs.Common.{refl, sym, ◌∙◌, zero-add, inl, inr, Option, 
 use Rattle.std.specs.List.{count_by}
 use Rattle.inp_script.specs.Legal.{LeavesOut}
 use Rattle.inp_runs.specs.Job.{is_entry_at}
-use Rattle.inp_runs.proofs.Common.{filter, Step, Reply, is_again, is_accepted, Call, place_of, Sight, Waiting}
-use Rattle.inp_runs.proofs.Common.{sight_of_calls, is_call_entry, call_sight, again_sight, AreTold}
+use Rattle.inp_runs.proofs.Common.{filter, sum_by, Step, Reply, is_again, is_accepted, Call, place_of, Sight}
+use Rattle.inp_runs.proofs.Common.{JobView, Waiting, sight_of_calls, is_call_entry, call_sight, again_sight}
+use Rattle.inp_runs.proofs.Common.{AreTold}
 use Rattle.std.proofs.lemmas.List.Sums.{sum_by-cons, sum_by-append}
 use Rattle.inp_model.specs.declared.reply.Reply.TheVariants.{Again as NothingVisible}
 use Rattle.inp_script.specs.declared.sight.Sight.TheVariants.{Call as Called, Again}
@@ -17,6 +18,10 @@ call_entries x reply = call_sight x reply ++ again_sight reply
 -- how many accepted calls at this place a sight tells of
 abbrev pub entries : ℕ → List Sight → ℕ
 entries place sight = count_by (is_entry_at place) sight
+
+-- how many accepted calls of all jobs have this place
+abbrev pub entries_at : ℕ → List JobView → ℕ
+entries_at place jobs = sum_by (λ (job : JobView). entries place job.sight) jobs
 
 -- one where the place is below this length
 abbrev pub below : ℕ → ℕ → ℕ

@@ -1,16 +1,15 @@
 -- What came of a device's actors, apart: its jobs, its joysticks' jobs, and its owners.
-use Rattle.std.proofs.Common.{◌≡◌, ℕ, suc, ◌+◌, Bool, true, not, ◌||◌, if◌then◌else◌, cond, List, [], ◌∷◌}
-use Rattle.std.proofs.Common.{map, refl, sym, ap, ◌∙◌, arith, Some}
+use Rattle.std.proofs.Common.{◌≡◌, ℕ, Bool, true, not, ◌||◌, cond, List, [], ◌∷◌}
+use Rattle.std.proofs.Common.{map, refl, sym, ◌∙◌, Some}
 use Rattle.inp_script.specs.Job.{job_end, joy_end, owner_end}
-use Rattle.inp_runs.specs.Apart.{joy_entries_at}
 use Rattle.inp_runs.proofs.Common.{filter, sum_by, slice_get-map, Role, Joy, Owner, is_joy, is_owner}
-use Rattle.inp_runs.proofs.Common.{ActorView, JobView, JoyJobView, OwnerView, entries_at}
+use Rattle.inp_runs.proofs.Common.{ActorView, JobView}
 use Rattle.std.specs.Prelude.{slice_get}
 use Rattle.std.proofs.lemmas.List.Sums.{sum_by-cons}
 use Rattle.inp_script.specs.Ended.{ended_as, ended_of, jobs_among, joys_among, owners_among}
 use Rattle.inp_runs.specs.Job.{calls_at}
-use Rattle.inp_runs.proofs.Entries.{entries}
-use Rattle.inp_runs.proofs.Lists.{IsAt, IsImage, option_map-some, slice_get-filter, sum_by-kept}
+use Rattle.inp_runs.proofs.Entries.{entries_at}
+use Rattle.inp_runs.proofs.Lists.{IsAt, IsImage, option_map-some, slice_get-filter}
 
 -- an actor is a joystick, it is an owner, and it is neither
 abbrev pub is_stick : ActorView → Bool
@@ -21,11 +20,6 @@ is_feeding a = is_owner a.role
 
 abbrev pub is_other : ActorView → Bool
 is_other a = not (is_joy a.role || is_owner a.role)
-
--- only a joystick passes the test for joysticks
-pub joy-role : (role : Role) → is_joy role ≡ true → role ≡ Joy
-joy-role Joy h = refl
-joy-role _ h = absurd cc
 
 -- only an owner passes the test for owners
 pub owner-role : (role : Role) → is_owner role ≡ true → role ≡ Owner
@@ -98,58 +92,6 @@ module _ (actors : List ActorView) where
   pub job-end_of : (k : ℕ) (job : JobView) → slice_get (jobs_among (map ended_of actors)) k ≡ Some job
       → IsEndOf job_end is_other actors job
   job-end_of k job h = end-of job_end is_other actors k job (rw (← jobs-kept) h)
-
-  -- each joystick's job came of a joystick, as no others are kept
-  pub joy-end_of : (k : ℕ) (joy : JoyJobView) → slice_get (joys_among (map ended_of actors)) k ≡ Some joy
-      → IsEndOf joy_end is_stick actors joy
-  joy-end_of k joy h = end-of joy_end is_stick actors k joy (rw (← joys-kept) h)
-
-  -- each owner's result came of an owner, as no others are kept
-  pub owner-end_of : (k : ℕ) (owner : OwnerView)
-      → slice_get (owners_among (map ended_of actors)) k ≡ Some owner
-      → IsEndOf owner_end is_feeding actors owner
-  owner-end_of k owner h = end-of owner_end is_feeding actors k owner (rw (← owners-kept) h)
-
--- of these actors no owner counts
-abbrev pub OwnersCountNothing : (ActorView → ℕ) → List ActorView → Type 0
-OwnersCountNothing f actors =
-    (k : ℕ) (a : ActorView) → slice_get actors k ≡ Some a → is_owner a.role ≡ true → f a ≡ 0
-
--- then the joysticks and those that are neither have the whole sum
-split-roles : (f : ActorView → ℕ) (actors : List ActorView) → OwnersCountNothing f actors
-    → sum_by (λ a. if is_other a then f a else 0) actors + sum_by (λ a. if is_stick a then f a else 0) actors
-    ≡ sum_by f actors
-split-roles f [] none = refl
-split-roles f (a ∷ actors) none =
-    omega (
-      arith,
-      one a.role (f a) (none 0 a refl),
-      split-roles f actors (λ k b is. none (suc k) b is),
-      sum_by-cons (λ b. if is_other b then f b else 0) a actors,
-      sum_by-cons (λ b. if is_stick b then f b else 0) a actors,
-      sum_by-cons f a actors,
-    )
-  where
-    one : (role : Role) (n : ℕ) → (is_owner role ≡ true → n ≡ 0)
-        → (if not (is_joy role || is_owner role) then n else 0) + (if is_joy role then n else 0) ≡ n
-    one Joy n h = omega arith
-    one Owner n h = sym (h refl)
-    one _ n h = omega arith
-
--- the jobs and the joysticks' jobs have all entries, where owners have none
-pub split-sums : (place : ℕ) (actors : List ActorView) → OwnersCountNothing (calls_at place) actors
-    → entries_at place (jobs_among (map ended_of actors)) + joy_entries_at place
-    (joys_among (map ended_of actors)) ≡ sum_by (calls_at place) actors
-split-sums place actors none =
-    let jobs : entries_at place (jobs_among (map ended_of actors))
-    ≡ sum_by (λ (a : ActorView). if is_other a then calls_at place a else 0) actors =
-    ap (entries_at place) (jobs-kept actors)
-    ∙ sum_by-kept (λ (job : JobView). entries place job.sight) job_end is_other actors in
-    let joys : joy_entries_at place (joys_among (map ended_of actors))
-    ≡ sum_by (λ (a : ActorView). if is_stick a then calls_at place a else 0) actors =
-    ap (joy_entries_at place) (joys-kept actors)
-    ∙ sum_by-kept (λ (joy : JoyJobView). entries place joy.sight) joy_end is_stick actors in
-    rw (jobs, joys) (split-roles (calls_at place) actors none)
 
 -- each actor counts as what comes of it
 pub sum-ends : (place : ℕ) (actors : List ActorView)

@@ -9,7 +9,6 @@ pub mod JobTold
 pub mod JobEnds
 pub mod Done
 pub mod Played
-pub mod Apart
 pub mod Results
 pub mod EventLines
 pub mod CalledLines

@@ -132,18 +132,6 @@ map-filter f q (x ∷ xs) = by_flag (q (f x)) (map-filter f q xs)
     by_flag true e = rw e
     by_flag false e = e
 
--- a test that all pass keeps all, and one that none passes keeps none
-pub filter-all : {X : Type 0} (p : X → Bool) (xs : List X)
-    → ((k : ℕ) (x : X) → slice_get xs k ≡ Some x → p x ≡ true) → filter p xs ≡ xs
-filter-all p [] h = refl
-filter-all p (x ∷ xs) h = rw (h 0 x refl, filter-all p xs (λ k y e. h (suc k) y e))
-
--- each element fails the test, so none is kept
-pub filter-none : {X : Type 0} (p : X → Bool) (xs : List X)
-    → ((k : ℕ) (x : X) → slice_get xs k ≡ Some x → p x ≡ false) → filter p xs ≡ []
-filter-none p [] h = refl
-filter-none p (x ∷ xs) h = rw (h 0 x refl) (filter-none p xs (λ k y e. h (suc k) y e))
-
 -- tests that agree on all keep the same
 pub filter-same : {X : Type 0} (p q : X → Bool) (xs : List X)
     → ((k : ℕ) (x : X) → slice_get xs k ≡ Some x → p x ≡ q x) → filter p xs ≡ filter q xs

@@ -7,3 +7,4 @@ pub mod JobViews
 pub mod Reports
 pub mod AtHand
 pub mod Folded
+pub mod Shown

@@ -35,7 +35,7 @@ use Rattle.inp_script.specs.Sight as script
 use Rattle.inp_script.specs.Runs.{actors_of}
 use Rattle.inp_runs.specs.JobViews.{IsEventTaken, ShowsTheState, reads_as, index_in_history, sight_view}
 use Rattle.inp_runs.specs.Owner.{rooms_of, HasOwned}
-use Rattle.inp_runs.specs.Losses.{AreClientsLossesCaused}
+use Rattle.inp_runs.specs.LossCauses.{AreClientsLossesCaused}
 
 -- the action lines of an actor, in file order
 abbrev pub lines_by : ℕ → List Line → List Line

@@ -1,5 +1,5 @@
 -- What a job's view is at each report that it took (docs/RUNS.md, "What a sight tells of the device").
-use Rattle.std.specs.Prelude.{ℕ, suc, ◌+◌, ◌-◌, ◌≡◌, ◌<◌, pos, Bool, true, false, ◌&&◌, if◌then◌else◌, nat_eq, List, [], ◌∷◌, length, take, reverse, slice_get, slice_index_or, Option, Some, None, option_map}
+use Rattle.std.specs.Prelude.{ℕ, suc, ◌+◌, ◌-◌, ◌≡◌, ◌<◌, pos, Bool, true, false, ◌&&◌, if◌then◌else◌, nat_eq, List, [], ◌∷◌, length, reverse, slice_get, slice_index_or, Option, Some, None, option_map}
 use Rattle.inp_model.specs.declared.taken.Taken.{Taken}
 use Rattle.inp_model.specs.declared.step.Step.{Step}
 use Rattle.inp_model.specs.declared.step.Step.TheVariants.{Read}
@@ -74,19 +74,6 @@ index_behind d history client read = length (took d (past_at history read.place)
 abbrev pub index_in_history : Description → List Step → List Sight → Option ℕ
 index_in_history d history sight = option_map (index_behind d history (reads_as sight)) (last_read sight)
 
--- The last event of a sight is the one of its own index among those that the job's client took.
-pub record IsOwnEvent (d : Description) (history : List Step) (sight : List Sight) (taken : Taken) : Type 0 where
-  pub index : ℕ
-  pub is_own : index_in_history d history sight ≡ Some index
-  pub at : ReadEntry
-  pub is_at : slice_get (read_entries d (reverse history) (reads_as sight)) index ≡ Some at
-  pub is_taken : taken_of at.entry ≡ taken
-
--- each event that a job took is such
-abbrev pub AreEventsOwn : Description → List Step → List Sight → Type 0
-AreEventsOwn d history sight =
-    (k : ℕ) (taken : Taken) → slice_get sight k ≡ Some (Took taken) → IsOwnEvent d history (take (suc k) sight) taken
-
 -- while not all queries are answered the view is the one before them
 abbrev pub folded_view : Folding View → View
 folded_view (settled view) = view
@@ -122,29 +109,6 @@ pub record IsEventTaken (d : Description) (history : List Step) (role : Role) (s
       → AgreesIn d (sight_view role d history sight) (view_at d (reads_as sight) at)
   -- the step at the place of a loss met a full ring of this client, or changed its clock while events were queued
   pub caused : is_dropped taken.event ≡ true → IsCausedAt d (reverse history) (reads_as sight) taken.place
-
--- An event is the one of its own index among those that a client took. Where the client is synchronised then,
--- this view agrees with the client's view in the history. A history is written newest first, and is called a
--- past.
-pub record ShowsAt (d : Description) (past : List Step) (client : ℕ) (own : Option ℕ) (taken : Taken) (view : View) : Type 0 where
-  -- which of the events that the client took
-  pub index : ℕ
-  pub is_own : own ≡ Some index
-  pub at : ReadEntry
-  pub is_at : slice_get (read_entries d past client) index ≡ Some at
-  pub is_taken : taken_of at.entry ≡ taken
-  pub agrees : is_synchronised d at.before client at.taken ≡ true → AgreesIn d view (view_at d client at)
-
--- the same of the last event of a sight, and of the client that the job reads as then
-abbrev pub IsSeenAt : Description → List Step → Role → List Sight → Taken → Type 0
-IsSeenAt d history role sight taken =
-    ShowsAt d (reverse history) (reads_as sight) (index_in_history d history sight) taken (sight_view role d history sight)
-
--- At each report that a job took, its view up to then is the one that its client has in the history.
-abbrev pub AreReportsSeen : Description → List Step → Role → List Sight → Type 0
-AreReportsSeen d history role sight =
-    (k : ℕ) (taken : Taken) → slice_get sight k ≡ Some (Took taken) → is_report taken.event ≡ true
-    → IsSeenAt d history role (take (suc k) sight) taken
 
 -- An event is the one of its own index among those that a client took. Where it is the report of a frame up
 -- to which the client could follow the device, this view is the device's state at the frame's end.

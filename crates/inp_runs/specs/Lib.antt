@@ -1,9 +1,7 @@
 pub mod JobViews
 pub mod IndexExamples
-pub mod Losses
 pub mod Owner
 pub mod Job
-pub mod Apart
 pub mod Done
 pub mod EventLines
 pub mod DoingAll

@@ -48,7 +48,11 @@ abbrev pub AreQueuedCaused : Type 0
 AreQueuedCaused =
     (d : Description) (past : List Step) (client i : ℕ) (e : Entry) → slice_get (queue d past client) i ≡ Some e → IsCaused d past client e
 
--- each loss that a client took has its cause
+-- each loss that a client took in a past has its cause, whoever read as it
+abbrev pub AreClientsLossesCaused : Description → List Step → ℕ → Type 0
+AreClientsLossesCaused d past client =
+    (i : ℕ) (e : Entry) → slice_get (took d past client) i ≡ Some e → IsCaused d past client e
+
+-- each loss that any client took has its cause
 abbrev pub AreTakenCaused : Type 0
-AreTakenCaused =
-    (d : Description) (past : List Step) (client i : ℕ) (e : Entry) → slice_get (took d past client) i ≡ Some e → IsCaused d past client e
+AreTakenCaused = (d : Description) (past : List Step) (client : ℕ) → AreClientsLossesCaused d past client

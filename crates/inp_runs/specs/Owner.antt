@@ -9,7 +9,6 @@ use Rattle.inp_feedback.specs.declared.u_entry.UEntry.{UEntry}
 use Rattle.inp_feedback.specs.declared.u_entry.UEntry.TheVariants.{Made, Feedback}
 use Rattle.inp_feedback.specs.UEntry.{steps_in}
 use Rattle.inp_feedback.specs.Feedback.{is_full_of_feedback, taken_by_feedback, fed, kept_after_feedback}
-use Rattle.inp_script.specs.Job.{OwnerView, last_stop}
 use Rattle.inp_script.specs.Owner.{OwnerState, first_owning, after_feedback}
 
 -- how many events each feedback call of these lines has room for
@@ -57,9 +56,3 @@ pub record HasOwned (d : Description) (history : List Step) (rooms : List ℕ) (
   pub before : OwnerState
   pub fed : HasFed d kept done before
   pub ends : EndsFed d kept rooms done before last
-
--- The result of an owner.
-pub record IsOwner (d : Description) (history : List Step) (rooms : List ℕ) (owner : OwnerView) : Type 0 where
-  pub last : OwnerState
-  pub owned : HasOwned d history rooms last
-  pub ended : owner ≡ record { actor = owner.actor; fed = last.fed; stop = last_stop last.stop }

@@ -2,7 +2,6 @@
 ghost use Rattle.inp_runs.specs.OwnerExamples.{TakesTheBellOnce, StopsAtItsLimit};
 ghost use Rattle.inp_runs.specs.IndexExamples.{CountsBehindTheLastRead, TellsEqualEventsApart, CountsAcceptedReadsOfItsClient};
 ghost use Rattle.inp_runs.specs.Done.{AllAsPromised, DevicesDoneArePromised, OwnersLinesAreCalls};
-ghost use Rattle.inp_runs.specs.Apart.{PromisedAreApart};
 ghost use Rattle.inp_runs.specs.Job.{JobsShowTheDevice};
 ghost use Rattle.inp_runs.specs.LossCauses.{AreQueuedCaused, AreTakenCaused};
 ghost use Rattle.inp_runs.specs.Play.{HasOnePlay};
@@ -23,12 +22,6 @@ pub fn devices_done_are_promised()
 /// its contract is the point.
 pub fn all_as_promised()
     ensures promised { AllAsPromised }
-{}
-
-/// What was promised of jobs, joysticks and owners apart follows from what is promised. It does nothing: its contract is
-/// the point.
-pub fn promised_are_apart()
-    ensures apart { PromisedAreApart }
 {}
 
 /// At each report that a job took, its view up to then is the device's state at the end of that report's frame. This

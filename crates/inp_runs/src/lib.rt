@@ -6,7 +6,7 @@
 //!
 //! Its contract is a definition, `ArePromised` (`specs/Job.antt`), and what follows from it. Each device has one
 //! history, in which each job's replies are the one-thread device's at their places. Each sight, the joysticks' too,
-//! follows its lines, and each place is one accepted call of one job. `specs/LossCauses.antt`, `specs/Losses.antt` and
+//! follows its lines, and each place is one accepted call of one job. `specs/LossCauses.antt` and
 //! `specs/JobViews.antt` say why a job lost events, and what its view is at each report. `docs/RUNS.md`, "Playing a
 //! record", has all parts. So a job's view at a report is the device's state at that frame's end where its client could
 //! follow ([`laws::jobs_show_the_device`]). [`laws::indices_on_a_short_sight`] shows the indices of equal events on a
@@ -23,7 +23,7 @@
 //! call of the device. To the history it is the calls that the lines would make one by one. After want of memory too
 //! all that was done with the device is such calls (`IsActedOn`).
 //!
-//! An owner of a device that is made by requests makes no step. What is promised of it is `IsOwner`
+//! An owner of a device that is made by requests makes no step. What is promised of it is `HasOwned`
 //! (`specs/Owner.antt`). The feedback calls among the steps that its device kept are those of its lines, in file order,
 //! and each was answered from what was kept before it. Where as many calls are kept as the log limit says, the next one
 //! is refused, and the owner stops. [`laws::owners_on_a_short_row`] shows both on a short row. Each of an owner's lines

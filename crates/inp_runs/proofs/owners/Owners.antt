@@ -13,7 +13,7 @@ use Rattle.inp_runs.proofs.Common.{get_or_from_slice_get, Stamped, Step, Reply, 
 use Rattle.inp_runs.proofs.Common.{past_at, opens, Answer, IsAnswer, accepted, refused, is_accepted, Call}
 use Rattle.inp_runs.proofs.Common.{HasPlace, IsLegalFrom, IsLegalRun, place_of, next_place, client_of}
 use Rattle.inp_runs.proofs.Common.{Line, Role, IsHistory, NO_CLIENT, EndsWith, Waiting, Job, JobView}
-use Rattle.inp_runs.proofs.Common.{first_job, sight_of_calls, tap_client_after, lines_talk, entries_at}
+use Rattle.inp_runs.proofs.Common.{first_job, sight_of_calls, tap_client_after, lines_talk}
 use Rattle.inp_runs.proofs.Common.{AreTold, is_use, is_use_of}
 use Rattle.std.proofs.lemmas.List.Sums.{sum_by-cons, get_or-le-sum_by}
 use Rattle.inp_model.specs.declared.limits.TheConstants.{LOG_MAX}
@@ -22,7 +22,7 @@ use Rattle.inp_model.specs.declared.reply.Refusal.TheVariants.{NoMemory}
 use Rattle.inp_model.proofs.Opens.{opens-le}
 use Rattle.inp_model.proofs.Refused.{refused-not_accepted, accepted-unrefused}
 use Rattle.inp_reader.proofs.Calls.{IsPlaceOf}
-use Rattle.inp_runs.proofs.Entries.{entries, entries-cons_call, told-counts}
+use Rattle.inp_runs.proofs.Entries.{entries_at, entries, entries-cons_call, told-counts}
 use Rattle.inp_runs.proofs.views.JobClients.{NameLast, job-names}
 use Rattle.inp_runs.proofs.Lists.{eq_true}
 use Rattle.inp_reader.proofs.StandsAfterTalks.{opens-steps, open-opens}

@@ -16,7 +16,7 @@ use Rattle.inp_runs.proofs.Common.{past_at, eaten, noted_sight}
 use Rattle.std.specs.Prelude.{slice_get}
 use Rattle.inp_model.specs.declared.step.Step.TheVariants.{Read}
 use Rattle.inp_model.specs.declared.reply.Reply.TheVariants.{Again as NothingVisible}
-use Rattle.inp_runs.specs.JobViews.{read_after_sight, read_after_entry, IsOwnEvent, index_behind}
+use Rattle.inp_runs.specs.JobViews.{read_after_sight, read_after_entry, index_behind}
 use Rattle.inp_reader.specs.declared.next.Next.{Next}
 use Rattle.inp_reader.proofs.NextWalk.{Renewed, NextRules, next-ends, stop-cases}
 use Rattle.inp_model.specs.Queue.{Entry, taken_by, took, took_with}
@@ -26,10 +26,10 @@ use Rattle.inp_runs.proofs.losses.Causes.{all_taken-caused}
 use Rattle.inp_model.proofs.Refused.{unrefused_by}
 use Rattle.inp_reader.proofs.ClientViews.{idle-taken, used-taken}
 use Rattle.inp_reader.proofs.PastsAtCalls.{AreQuiet, IsMet}
-use Rattle.inp_runs.specs.Losses.{HasLossCause}
 use Rattle.inp_runs.proofs.views.Reports.{sight_told, whole-past, AreToCome, to-come-behind, past-entered}
 use Rattle.inp_runs.proofs.views.Reports.{place_behind, place_behind-append}
 use Rattle.inp_joy.proofs.Lists.{slice_get-left}
+use Rattle.inp_runs.proofs.views.Shown.{HasLossCause, IsOwnEvent}
 
 -- one event more behind a read
 abbrev pub one_event_more : LastRead → LastRead

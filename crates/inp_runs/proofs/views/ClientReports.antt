@@ -38,8 +38,7 @@ use Rattle.inp_script.specs.Fold.{client_fold}
 use Rattle.inp_script.proofs.ClientFolds.{next-folds, entries_of_next, start-folds}
 use Rattle.inp_script.proofs.Folds.{ArePlaced}
 use Rattle.inp_script.proofs.LineFolds.{folds-on, IsSilent, no_events, silent-fold}
-use Rattle.inp_runs.specs.JobViews.{client_after_sight, read_after_sight, IsOwnEvent, folded_view, sight_view}
-use Rattle.inp_runs.specs.JobViews.{IsSeenAt}
+use Rattle.inp_runs.specs.JobViews.{client_after_sight, read_after_sight, folded_view, sight_view}
 use Rattle.inp_runs.proofs.views.AtHand.{AreAtHand, IsRest, hand-first, hand-took, hand-index, hand-taken}
 use Rattle.inp_runs.proofs.views.AtHand.{taken-later, index-took, next-hand, read_after-append}
 use Rattle.inp_runs.proofs.views.AtHand.{read_after-took, read_after-told, unused-unread, with_handed}
@@ -53,6 +52,7 @@ use Rattle.inp_runs.proofs.views.Reports.{AreToCome, Coming, Comes, HaveCome, ha
 use Rattle.inp_runs.proofs.views.Reports.{at_each-eventless}
 use Rattle.inp_runs.proofs.views.TapViews.{client_after-append, client_after-none, client_after-told}
 use Rattle.inp_runs.proofs.LinesWalk.{OfStep}
+use Rattle.inp_runs.proofs.views.Shown.{IsOwnEvent, IsSeenAt}
 
 -- What is promised of an event that a client's job took: it is the one of its own index, and at a report the
 -- view is shown.

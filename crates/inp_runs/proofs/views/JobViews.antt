@@ -4,7 +4,7 @@ use Rattle.std.proofs.Common.{◌≡◌, ◌<◌, inl, inr, ℕ, true, false, �
 use Rattle.std.proofs.Common.{reverse, suc, refl, sym, subst, arith, append-nil, Option, Some, None, not}
 use Rattle.std.specs.Prelude.{slice_get}
 use Rattle.inp_script.proofs.LineWalk.{noted-ends-meet}
-use Rattle.inp_runs.specs.JobViews.{AreEventsOwn, AreReportsSeen, sight_view}
+use Rattle.inp_runs.specs.JobViews.{sight_view}
 use Rattle.inp_runs.proofs.Common.{list_any, eq-eqb, Stamped, Taken, Step, End, Opened, Description, past_at}
 use Rattle.inp_runs.proofs.Common.{Answer, IsAnswer, Call, IsLegalRun, place_of, HasPlace, ActorText, Command}
 use Rattle.inp_runs.proofs.Common.{Tick, Inhibit, Uninhibit, Stream, Stream16, Line, Role, Source, Client}
@@ -27,7 +27,6 @@ use Rattle.inp_script.specs.DoneLine.{line_talk}
 use Rattle.inp_script.specs.Joystick.{record_sight, start_joystick, after_joy_answer, joystick_talk}
 use Rattle.inp_script.proofs.JoyTold.{starts}
 use Rattle.inp_script.proofs.JoyWalk.{AfterRead, AfterTurns, is_joy_call, JoyRules, joystick-meets}
-use Rattle.inp_runs.specs.Losses.{AreLossesCaused}
 use Rattle.inp_runs.proofs.views.AtHand.{own-caused, shown-own}
 use Rattle.inp_runs.proofs.views.ClientReports.{IsClientJob, ClientSaw, client-first, client-rules}
 use Rattle.inp_runs.proofs.views.Folded.{AreOfRole, its_lines, view-folded}
@@ -37,6 +36,7 @@ use Rattle.inp_runs.proofs.views.Reports.{AreToCome, Coming, Comes, coming-run, 
 use Rattle.inp_runs.proofs.views.TapViews.{TapStands, TapSaw, tap-line, tap-first}
 use Rattle.inp_runs.proofs.LinesWalk.{OfStep, unless-keeps, source-keeps, last-keeps, lines-keep}
 use Rattle.inp_script.specs.Fold.{IsFolded}
+use Rattle.inp_runs.proofs.views.Shown.{AreEventsOwn, AreLossesCaused, AreReportsSeen}
 
 -- ---- sources, which read nothing, and joysticks, which take nothing
 

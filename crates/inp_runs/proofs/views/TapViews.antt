@@ -53,7 +53,7 @@ use Rattle.inp_reader.proofs.Supported.{events-of}
 use Rattle.inp_script.specs.declared.sight.Sight.TheVariants.{Call as CallSight}
 use Rattle.inp_script.specs.Fold.{tap_fold}
 use Rattle.inp_script.proofs.Folds.{tap_fold-append, call-folds, entries-fold, fold-taken, again_sets_nothing}
-use Rattle.inp_runs.specs.JobViews.{client_after_sight, IsSeenAt}
+use Rattle.inp_runs.specs.JobViews.{client_after_sight}
 use Rattle.inp_runs.proofs.views.AtHand.{accepted-exact, index-read, read-as}
 use Rattle.inp_runs.proofs.LinesWalk.{OfStep}
 use Rattle.inp_runs.proofs.views.Reports.{sight_told, AtEach, at_each-told, Coming, Comes, shows-as}
@@ -63,6 +63,7 @@ use Rattle.inp_runs.proofs.views.Reports.{sized-at, AreToCome, quiet-before, pas
 use Rattle.inp_reader.proofs.UnsetSlotAxes.{has_cells}
 use Rattle.inp_runs.proofs.views.JobClients.{stays-last}
 use Rattle.inp_runs.proofs.owners.Owners.{names-open}
+use Rattle.inp_runs.proofs.views.Shown.{IsSeenAt}
 
 -- ---- what was asked for since the client's start
 

@@ -2,7 +2,7 @@
 use Rattle.std.proofs.Common.{pos, refl, [], ◌∷◌, inl, inr}
 use Rattle.inp_runs.proofs.Common.{Inject, OwnerState}
 use Rattle.inp_feedback.specs.declared.u_entry.UEntry.TheVariants.{Made, Feedback}
-use Rattle.inp_feedback.specs.declared.fed.Fed.TheVariants.{Took, Full}
+use Rattle.inp_feedback.specs.declared.fed.Fed.TheVariants.{Took}
 use Rattle.inp_feedback.specs.Examples.{bell}
 use Rattle.inp_feedback.proofs.Computation.{computing}
 use Rattle.inp_runs.specs.Owner.{HasFed}
@@ -17,41 +17,33 @@ told_once = after_feedback (Took 1 1) (bell (pos 1) ∷ []) first_owning
 takes : TakesTheBellOnce
 unfolding HasFed computing
 takes = record {
-  last = after_feedback (Took 1 0) [] told_once;
-  owned = record {
-    kept = Feedback 0 ∷ Feedback 1 ∷ Made (Inject (bell (pos 1)) 0) ∷ [];
-    steps = refl;
-    done = 8 ∷ 8 ∷ [];
-    before = after_feedback (Took 1 0) [] told_once;
-    fed = (told_once, (first_owning, refl, refl, refl), refl, refl);
-    ends = inl (refl, refl);
-  };
-  ended = refl;
+  kept = Feedback 0 ∷ Feedback 1 ∷ Made (Inject (bell (pos 1)) 0) ∷ [];
+  steps = refl;
+  done = 8 ∷ 8 ∷ [];
+  before = after_feedback (Took 1 0) [] told_once;
+  fed = (told_once, (first_owning, refl, refl, refl), refl, refl);
+  ends = inl (refl, refl);
 }
 
 stops : StopsAtItsLimit
 unfolding HasFed computing
 stops = record {
-  last = after_feedback (Full 1) [] told_once;
-  owned = record {
-    kept = Feedback 1 ∷ Made (Inject (bell (pos 1)) 0) ∷ [];
-    steps = refl;
-    done = 8 ∷ [];
-    before = told_once;
-    fed = (first_owning, refl, refl, refl);
-    ends =
-        inr (record {
-          room = 8;
-          left = 8 ∷ [];
-          is_next = refl;
-          later = [];
-          found = Feedback 1 ∷ Made (Inject (bell (pos 1)) 0) ∷ [];
-          split = refl;
-          full = refl;
-          told = refl;
-        });
-  };
-  ended = refl;
+  kept = Feedback 1 ∷ Made (Inject (bell (pos 1)) 0) ∷ [];
+  steps = refl;
+  done = 8 ∷ [];
+  before = told_once;
+  fed = (first_owning, refl, refl, refl);
+  ends =
+      inr (record {
+        room = 8;
+        left = 8 ∷ [];
+        is_next = refl;
+        later = [];
+        found = Feedback 1 ∷ Made (Inject (bell (pos 1)) 0) ∷ [];
+        split = refl;
+        full = refl;
+        told = refl;
+      });
 }
 
 -- each example is computed from what the device kept
