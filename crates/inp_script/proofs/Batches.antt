@@ -7,7 +7,7 @@ use Rattle.std.specs.Prelude.{min}
 use Rattle.std.specs.List.{slice_get}
 use Rattle.std.proofs.lemmas.Bool.Decides.{nat_tests}
 use Rattle.std.proofs.lemmas.List.{take_more, take_all, length-take-le}
-use Rattle.inp_script.specs.Notes.{entered_calls, AreMade, notes_after, AreNoted}
+use Rattle.inp_script.specs.Notes.{entered_calls, injected_calls, notes_after}
 use Rattle.inp_script.proofs.Common.{Stamped, EvdevView, Call, Notes, AreCalls}
 use Rattle.inp_model.specs.declared.injected.Injected.{Injected}
 use Rattle.inp_model.specs.Injection.{AreInTime, IsInjectAll, entered_call, full_call, calls_of}
@@ -62,24 +62,14 @@ calls-refused limit (suc count) from (first ∷ events) stamped is h =
       calls-refused limit count (suc from) events stamped (omega (arith, is)) h,
     )
 
-made-calls : (before after : EvdevView) (events : List Stamped) (injected : Injected) → 1 ≤ length events
-    → IsInjectAll before after events injected
-    → AreCalls before after (calls_of (injected.from + injected.count) injected.from events)
+-- one call that injects events is as many calls, each at the next place, up to a refused one
+pub made-calls : (before after : EvdevView) (events : List Stamped) (injected : Injected) → 1 ≤ length events
+    → IsInjectAll before after events injected → AreCalls before after (injected_calls injected events)
 made-calls before after [] injected some all = absurd (omega (arith, some))
 made-calls before after (first ∷ events) injected some all =
     subst (AreCalls before after)
     (calls-limit before.description.log_limit injected.count injected.from (first ∷ events) all.count)
     (injected-calls before after first events injected all)
-
--- one call that injects events is as many calls, each at the next place, up to a refused one
-pub are-made : (before after : EvdevView) (events : List Stamped) (injected : Injected) → 1 ≤ length events
-    → IsInjectAll before after events injected → AreMade before after events
-are-made before after events injected some all =
-    record {
-      from = injected.from;
-      count = injected.count;
-      are_calls = made-calls before after events injected some all;
-    }
 
 -- What is noted
 
@@ -132,48 +122,38 @@ le_false : (m n : ℕ) → n < m → false ≡ nat_le m n
 le_false m n h = grind (arith, nat_tests, h)
 
 -- all were entered
-pub all-noted : (before after : EvdevView) (events entered : List Stamped) (injected : Injected)
-    (old new : Notes) → 1 ≤ length events → IsInjectAll before after events injected
-    → entered ≡ take injected.count events
-    → slice_get (drop injected.count events) 0 ≡ None
-    → new ≡ notes_after (entered_calls injected.from entered) old → AreNoted before after events true old new
-all-noted before after events entered injected old new some all front none noted =
+pub all-entered : (count : ℕ) (events : List Stamped) → slice_get (drop count events) 0 ≡ None
+    → true ≡ nat_le (length events) count
+all-entered count events none = le_true _ count (none_left count events none)
+
+pub all-noted : (injected : Injected) (events entered : List Stamped) (old new : Notes)
+    → entered ≡ take injected.count events → slice_get (drop injected.count events) 0 ≡ None
+    → new ≡ notes_after (entered_calls injected.from entered) old
+    → new ≡ notes_after (injected_calls injected events) old
+all-noted injected events entered old new front none noted =
     let few : length events ≤ injected.count = none_left injected.count events none in
     let whole : entered ≡ events = front ∙ take_all injected.count events few in
-    let calls : calls_of (injected.from + injected.count) injected.from events
-    ≡ entered_calls injected.from events = calls-entered _ injected.from events (omega (arith, few)) in
-    record {
-      made = record {
-        from = injected.from;
-        count = injected.count;
-        are_calls = made-calls before after events injected some all;
-      };
-      all_entered = le_true _ injected.count few;
-      noted = rw (noted, whole) (sym (rw calls));
-    }
+    let calls : injected_calls injected events ≡ entered_calls injected.from events =
+    calls-entered _ injected.from events (omega (arith, few)) in
+    rw (noted, whole) (sym (rw calls))
 
 -- or one was refused
-pub some-noted : (before after : EvdevView) (events entered : List Stamped) (stamped : Stamped)
-    (injected : Injected) (old mid new : Notes) → 1 ≤ length events → IsInjectAll before after events injected
-    → entered ≡ take injected.count events
+pub some-entered : (count : ℕ) (events : List Stamped) (stamped : Stamped)
+    → slice_get (drop count events) 0 ≡ Some stamped → false ≡ nat_le (length events) count
+some-entered count events stamped one = le_false _ count (one_left count events stamped one)
+
+pub some-noted : (injected : Injected) (events entered : List Stamped) (stamped : Stamped)
+    (old mid new : Notes) → entered ≡ take injected.count events
     → slice_get (drop injected.count events) 0 ≡ Some stamped
     → mid ≡ notes_after (entered_calls injected.from entered) old
     → new ≡ notes_after (full_call (injected.from + injected.count) stamped ∷ []) mid
-    → AreNoted before after events false old new
-some-noted before after events entered stamped injected old mid new some all front one before_it noted =
+    → new ≡ notes_after (injected_calls injected events) old
+some-noted injected events entered stamped old mid new front one before_it noted =
     let limit : ℕ = injected.from + injected.count in
-    let calls : calls_of limit injected.from events ≡ entered_calls injected.from (take injected.count events)
-    ++ full_call limit stamped ∷ [] =
+    let calls : injected_calls injected events
+    ≡ entered_calls injected.from (take injected.count events) ++ full_call limit stamped ∷ [] =
     calls-refused limit injected.count injected.from events stamped refl one in
-    record {
-      made = record {
-        from = injected.from;
-        count = injected.count;
-        are_calls = made-calls before after events injected some all;
-      };
-      all_entered = le_false _ injected.count (one_left injected.count events stamped one);
-      noted = rw (calls, notes-append, ← front, ← before_it) noted;
-    }
+    rw (calls, notes-append, ← front, ← before_it) noted
 
 -- Moments
 

@@ -4,14 +4,16 @@ use Rattle.std.proofs.Common.{◌≡◌, ℕ, suc, ◌+◌, ◌-◌, ◌<◌, �
 use Rattle.std.proofs.Common.{refl, Bool, true, false, if◌then◌else◌, Option, Some, arith}
 use Rattle.std.proofs.lemmas.Bool.Decides.{nat_tests}
 use Rattle.std.proofs.lemmas.Bool.{cond_both}
-use Rattle.inp_script.specs.Notes.{IsNoted, AreMade, notes_after, AreNoted}
+use Rattle.inp_script.specs.Notes.{IsNoted, injected_calls, notes_after}
 use Rattle.inp_script.proofs.Common.{Stamped, Step, Reply, EvdevView, Answer, Call, ReaderState, Notes, Holds}
 use Rattle.inp_script.proofs.Common.{Begins, Job, Stick, job_of, job_with, IsStepMade}
 use Rattle.inp_script.proofs.Common.{AreCalls, Talk, finish, LeadsTo, after_call, call_talk, call_if}
 use Rattle.inp_script.proofs.Common.{stream_talk}
-use Rattle.inp_model.specs.Injection.{AreInTime, entered_call, calls_of}
+use Rattle.inp_model.specs.declared.injected.Injected.{Injected}
+use Rattle.inp_model.specs.Injection.{AreInTime, IsInjectAll, entered_call, calls_of}
 use Rattle.inp_model.proofs.Leaves.{AreCalls-append}
 use Rattle.inp_reader.proofs.Talks.{LeadsTo-append}
+use Rattle.inp_script.proofs.Batches.{made-calls}
 use Rattle.inp_script.proofs.TalkCalls.{holds-one, begins-one, begins-same}
 
 -- a call that was noted leaves the job that the definition says
@@ -102,52 +104,61 @@ injected-none told stream notes h = record { calls = []; leads = λ r. refl; are
 
 -- as many more as a call injected, whether they were noted or not
 module _ (before between after : EvdevView) (stream rest events later : List Stamped) (old mid : Notes)
-    (s : IsInjected before between stream rest old mid) (is : rest ≡ events ++ later) where
-  more_leads : (r : ReaderState) (m : AreMade between after events)
-      → LeadsTo (stream_talk stream (job_of r old)) (s.calls ++ calls_of (m.from + m.count) m.from events)
-      (go_on (nat_le (length events) m.count) later
-      (job_of r (notes_after (calls_of (m.from + m.count) m.from events) mid)))
-  more_leads r m =
-      let limit : ℕ = m.from + m.count in
-      let calls : List Call = calls_of limit m.from events in
+    (injected : Injected) (s : IsInjected before between stream rest old mid) (is : rest ≡ events ++ later)
+    (some : 1 ≤ length events) (all : IsInjectAll between after events injected) where
+  more_leads : (r : ReaderState)
+      → LeadsTo (stream_talk stream (job_of r old)) (s.calls ++ injected_calls injected events)
+      (go_on (nat_le (length events) injected.count) later
+      (job_of r (notes_after (injected_calls injected events) mid)))
+  more_leads r =
+      let limit : ℕ = injected.from + injected.count in
+      let calls : List Call = injected_calls injected events in
       LeadsTo-append (stream_talk stream (job_of r old)) (stream_talk rest (job_of r mid))
-      (go_on (nat_le (length events) m.count) later (job_of r (notes_after calls mid))) s.calls
+      (go_on (nat_le (length events) injected.count) later (job_of r (notes_after calls mid))) s.calls
       calls (s.leads r)
-      (rw is (rw noted-jobs at (some-leads limit m.count m.from events later (job_of r mid) refl)))
+      (rw is
+      (rw noted-jobs at (some-leads limit injected.count injected.from events later (job_of r mid) refl)))
 
-  noted_leads : (r : ReaderState) (all : Bool) (new : Notes) (n : AreNoted between after events all mid new)
-      → LeadsTo (stream_talk stream (job_of r old))
-      (s.calls ++ calls_of (n.made.from + n.made.count) n.made.from events) (go_on all later (job_of r new))
-  noted_leads r all new n = rw (n.all_entered, n.noted) (more_leads r n.made)
+  more_calls : AreCalls before after (s.calls ++ injected_calls injected events)
+  more_calls =
+      AreCalls-append before between after s.calls _ s.are_calls
+      (made-calls between after events injected some all)
+
+  noted_leads : (r : ReaderState) (on : Bool) (new : Notes) → on ≡ nat_le (length events) injected.count
+      → new ≡ notes_after (injected_calls injected events) mid
+      → LeadsTo (stream_talk stream (job_of r old)) (s.calls ++ injected_calls injected events)
+      (go_on on later (job_of r new))
+  noted_leads r on new entered noted = rw (entered, noted) (more_leads r)
 
   -- all events of a part were entered, so the stream goes on with what is behind it
-  pub injected-more : (new : Notes) → AreInTime later → AreNoted between after events true mid new
+  pub injected-more : (new : Notes) → AreInTime later → true ≡ nat_le (length events) injected.count
+      → new ≡ notes_after (injected_calls injected events) mid
       → IsInjected before after stream later old new
-  injected-more new in_time n = record {
-    calls = s.calls ++ calls_of (n.made.from + n.made.count) n.made.from events;
-    leads = λ r. noted_leads r true new n;
-    are_calls = AreCalls-append before between after s.calls _ s.are_calls n.made.are_calls;
+  injected-more new in_time entered noted = record {
+    calls = s.calls ++ injected_calls injected events;
+    leads = λ r. noted_leads r true new entered noted;
+    are_calls = more_calls;
     in_time = in_time;
   }
 
   -- an event was refused, and the stream ends there
-  pub injected-refused : (new : Notes) → AreNoted between after events false mid new → (r : ReaderState)
+  pub injected-refused : (new : Notes) → false ≡ nat_le (length events) injected.count
+      → new ≡ notes_after (injected_calls injected events) mid → (r : ReaderState)
       → Holds before after (stream_talk stream (job_of r old)) (Some (job_of r new))
-  injected-refused new n r = record {
-    calls = s.calls ++ calls_of (n.made.from + n.made.count) n.made.from events;
-    talk_ends = noted_leads r false new n;
-    are_calls = AreCalls-append before between after s.calls _ s.are_calls n.made.are_calls;
+  injected-refused new entered noted r = record {
+    calls = s.calls ++ injected_calls injected events;
+    talk_ends = noted_leads r false new entered noted;
+    are_calls = more_calls;
   }
 
-  pub injected-begun : AreMade between after events → (r : ReaderState)
-      → Begins before after (stream_talk stream (job_of r old))
-  injected-begun m r = record {
-    calls = s.calls ++ calls_of (m.from + m.count) m.from events;
+  pub injected-begun : (r : ReaderState) → Begins before after (stream_talk stream (job_of r old))
+  injected-begun r = record {
+    calls = s.calls ++ injected_calls injected events;
     rest =
-        go_on (nat_le (length events) m.count) later
-        (job_of r (notes_after (calls_of (m.from + m.count) m.from events) mid));
-    leads = more_leads r m;
-    are_calls = AreCalls-append before between after s.calls _ s.are_calls m.are_calls;
+        go_on (nat_le (length events) injected.count) later
+        (job_of r (notes_after (injected_calls injected events) mid));
+    leads = more_leads r;
+    are_calls = more_calls;
   }
 
 -- the calls so far are the first ones of the whole stream

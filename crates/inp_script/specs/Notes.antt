@@ -1,12 +1,12 @@
 -- What single calls leave of what a job keeps.
-use Rattle.std.specs.Prelude.{◌≡◌, ℕ, suc, ◌+◌, Bool, false, nat_le, List, [], ◌∷◌, ◌++◌, length, map}
+use Rattle.std.specs.Prelude.{◌≡◌, ℕ, suc, ◌+◌, false, List, [], ◌∷◌, ◌++◌, map}
 use Rattle.inp_model.specs.declared.stamped.Stamped.{Stamped}
+use Rattle.inp_model.specs.declared.injected.Injected.{Injected}
 use Rattle.inp_model.specs.declared.step.Step.{Step}
 use Rattle.inp_model.specs.declared.reply.Reply.{Reply}
 use Rattle.inp_model.specs.declared.reply.Reply.TheVariants.{Took as Taking}
 use Rattle.inp_model.specs.Evdev.{EvdevView, IsCall}
 use Rattle.inp_model.specs.Injection.{entered_call, calls_of}
-use Rattle.inp_model.specs.Leaves.{AreCalls}
 use Rattle.inp_model.specs.Reply.{Answer}
 use Rattle.inp_model.specs.Run.{Call}
 use Rattle.inp_joy.specs.Joy.{JoystickState}
@@ -65,14 +65,6 @@ abbrev pub entered_calls : ℕ → List Stamped → List Call
 entered_calls from [] = []
 entered_calls from (stamped ∷ events) = entered_call from stamped ∷ entered_calls (suc from) events
 
--- Events were injected by one call, the first ones of them entered from a place on.
-pub record AreMade (before after : EvdevView) (events : List Stamped) : Type 0 where
-  pub from : ℕ
-  pub count : ℕ
-  pub are_calls : AreCalls before after (calls_of (from + count) from events)
-
--- They were, and each call that this is was noted. It is known whether all were entered.
-pub record AreNoted (before after : EvdevView) (events : List Stamped) (all : Bool) (old new : Notes) : Type 0 where
-  pub made : AreMade before after events
-  pub all_entered : all ≡ nat_le (length events) made.count
-  pub noted : new ≡ notes_after (calls_of (made.from + made.count) made.from events) old
+-- the calls for events that were injected by one call, up to the first that is refused
+abbrev pub injected_calls : Injected → List Stamped → List Call
+injected_calls injected events = calls_of (injected.from + injected.count) injected.from events

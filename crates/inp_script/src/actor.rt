@@ -15,7 +15,6 @@ ghost use Rattle.inp_script.specs.Job.{first_job};
 ghost use Rattle.inp_script.specs.Line.{end_talk};
 
 use crate::notes::Notes;
-use crate::role::source::inject_stream;
 use crate::role::state::RoleState;
 use crate::stops::last_stop;
 use crate::{Ended, Sights, Waiting};
@@ -185,7 +184,7 @@ impl Actor {
         ensures left { IsLeft (E.told dev.old) (E.told dev.new) }
     {
         if self.notes.stop.is_none() {
-            return inject_stream(dev, &mut self.notes, events);
+            return self.notes.inject_all(dev, events);
         }
         Ok(())
     }

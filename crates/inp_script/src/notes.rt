@@ -1,16 +1,22 @@
 //! What a job saw, and why it stopped.
-ghost use Rattle.std.specs.Prelude.{◌≡◌, ◌≤◌, ◌<◌, ◌+◌, ◌^◌, [], ◌++◌, length, map, OnOk, IfOk};
+ghost use Rattle.std.specs.Prelude.{◌≡◌, ◌≤◌, ◌<◌, ◌+◌, ◌^◌, nat_le, [], ◌++◌, length, map, OnOk, IfOk, Some};
 ghost use Rattle.inp_model.specs.declared.stamped.TheConstants.{MOMENT_MAX};
 ghost use Rattle.inp_model.specs.Step.{moment_of};
 ghost use Rattle.inp_model.specs.Reply.{HasRoom};
 ghost use Rattle.inp_model.specs.Injection.{AreInTime, inject_of};
-ghost use Rattle.inp_script.specs.Notes.{IsStepMade, IsNoted, IsStartNoted, AreMade, AreNoted, notes_after, entered_calls};
+ghost use Rattle.inp_reader.specs.Reader.{ReaderState};
+ghost use Rattle.inp_script.specs.DoneLine.{Begins, Holds};
+ghost use Rattle.inp_script.specs.Line.{stream_talk};
+ghost use Rattle.inp_script.specs.Notes.{IsStepMade, IsNoted, IsStartNoted, notes_after, entered_calls, injected_calls, job_of};
 ghost use Rattle.inp_script.specs.Sight.{taken_sight, made_sight, sight_of_call, stop_after};
 
 use crate::stops::{start_lacks_memory, stop_after, stop_after_start};
 use crate::{Sight, Sights, Stop};
-use inp_model::{Evdev, NoMemory, Refusal, Reply, Stamped, Step, Taken};
+use inp_model::{Evdev, Injected, NoMemory, Refusal, Reply, Stamped, Step, Taken};
 use inp_reader::{CallMade, Started};
+
+/// How many events one call injects at most: others wait for their turn no longer than for these.
+const STREAM_BATCH: usize = 1024;
 
 /// What a job saw, and why it stopped, if it did.
 #[derive(Drop)]
@@ -80,20 +86,39 @@ impl Notes {
         Ok(reply)
     }
 
-    // Injects events by one call, and notes each as a call, up to the first for which the limit left no room. Says
-    // whether all were entered.
+    // Injects events, each at its own moment, and notes each as a call, up to the first that is refused.
     pub(crate) fn inject_all<E: Evdev>(
         &mut self,
         dev: &mut E,
-        events: &[Stamped],
-    ) -> Result<bool, NoMemory>
-        requires moments { AreInTime events.now }
-        requires some { 1 ≤ length events.now }
-        ensures noted { IfOk result (λ all. AreNoted (E.told dev.old) (E.told dev.new) events.now all
-            self.old self.new) }
-        ensures made { AreMade (E.told dev.old) (E.told dev.new) events.now }
+        stream: &[Stamped],
+    ) -> Result<(), NoMemory>
+        requires in_time { AreInTime stream.now }
+        ensures done { OnOk result ((r : ReaderState) → Holds (E.told dev.old) (E.told dev.new)
+            (stream_talk stream.now (job_of r self.old)) (Some (job_of r self.new))) }
+        ensures begun { (r : ReaderState) → Begins (E.told dev.old) (E.told dev.new)
+            (stream_talk stream.now (job_of r self.old)) }
     {
-        let injected = dev.inject_all(events);
+        let mut rest = stream;
+        while !rest.is_empty() {
+            let (events, later) = rest.split_at(rest.len().min(STREAM_BATCH));
+            let injected = dev.inject_all(events);
+            if !self.note_injected(injected, events)? {
+                return Ok(());
+            }
+            rest = later;
+        }
+        Ok(())
+    }
+
+    // Notes each event that a call injected as a call, up to the first for which the limit left no room. Says whether
+    // all were entered.
+    fn note_injected(&mut self, injected: Injected, events: &[Stamped]) -> Result<bool, NoMemory>
+        requires count { injected.count ≤ length events.now }
+        requires fits { injected.from + injected.count < 2 ^ 32 }
+        ensures all { IfOk result (λ all. all ≡ nat_le (length events.now) injected.count) }
+        ensures noted { OnOk result
+            (self.new ≡ notes_after (injected_calls injected events.now) self.old) }
+    {
         let (entered, others) = events.split_at(injected.count as usize);
         self.note_entered(injected.from, entered)?;
         let Some(refused) = others.first() else {

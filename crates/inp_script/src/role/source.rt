@@ -1,43 +1,16 @@
 //! What a source does.
 ghost use Rattle.std.specs.Prelude.{OnOk, Some};
 ghost use Rattle.inp_actors.specs.declared.role.Role.TheVariants.{Source};
-ghost use Rattle.inp_model.specs.Injection.{AreInTime};
 ghost use Rattle.inp_reader.specs.Reader.{ReaderState};
 ghost use Rattle.inp_script.specs.DoneLine.{Begins, Holds, IsCommandFor};
-ghost use Rattle.inp_script.specs.Line.{stream_talk, source_talk};
+ghost use Rattle.inp_script.specs.Line.{source_talk};
 ghost use Rattle.inp_script.specs.Notes.{job_of};
 
 use crate::notes::Notes;
 use crate::steps::step_of;
 use inp_actors::{Command, Record};
-use inp_model::{Evdev, NoMemory, Stamped};
+use inp_model::{Evdev, NoMemory};
 use inp_reader::NO_CLIENT;
-
-/// How many events one call injects at most: others wait for their turn no longer than for these.
-const STREAM_BATCH: usize = 1024;
-
-// Injects events, each at its own moment, up to the first that is refused.
-pub(crate) fn inject_stream<E: Evdev>(
-    dev: &mut E,
-    notes: &mut Notes,
-    stream: &[Stamped],
-) -> Result<(), NoMemory>
-    requires in_time { AreInTime stream.now }
-    ensures done { OnOk result ((r : ReaderState) → Holds (E.told dev.old) (E.told dev.new)
-        (stream_talk stream.now (job_of r notes.old)) (Some (job_of r notes.new))) }
-    ensures begun { (r : ReaderState) → Begins (E.told dev.old) (E.told dev.new)
-        (stream_talk stream.now (job_of r notes.old)) }
-{
-    let mut rest = stream;
-    while !rest.is_empty() {
-        let (events, later) = rest.split_at(rest.len().min(STREAM_BATCH));
-        if !notes.inject_all(dev, events)? {
-            return Ok(());
-        }
-        rest = later;
-    }
-    Ok(())
-}
 
 // Does a command of a source.
 pub(crate) fn do_source_command<E: Evdev>(
@@ -54,7 +27,7 @@ pub(crate) fn do_source_command<E: Evdev>(
         (source_talk rec.now.streams command.now (job_of r notes.old)) }
 {
     if let Some(index) = command.stream_index() {
-        return inject_stream(dev, notes, rec.stream(index as usize).as_slice());
+        return notes.inject_all(dev, rec.stream(index as usize).as_slice());
     }
     let Some(step) = step_of(NO_CLIENT, command) else {
         return Ok(());

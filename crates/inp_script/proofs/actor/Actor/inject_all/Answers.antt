@@ -26,25 +26,25 @@ returns g c =
 pub returns-then-is_none : goal.returns-then-is_none
 returns-then-is_none g c =
     let a = g.E.Evdev.told c.args.dev.now in
-    let b = g.E.Evdev.told c.inject_stream.new.dev in
+    let b = g.E.Evdev.told c.inject_all.new.dev in
     let events = c.args.events.now in
     let r : ReaderState = role_reading c.self.inside.state in
     let stick : Stick = stick_of c.self.inside.state in
     let old : Job = job_with r stick c.self.inside.notes in
-    let new : Job = job_with r stick c.inject_stream.new.notes in
+    let new : Job = job_with r stick c.inject_all.new.self in
     let none = source-stick c.self.inside.state (rw (← c.self.view_is) at c.requires.source) in
     let same : old ≡ c.args.self.now.job = rw (← c.self.view_is) in
     let goes : is_some old.stop ≡ false = c.is_none.ensures ∙ ap not c.if-is_none.true in
     let begun : Begins a b (inject_talk events c.args.self.now.job) =
     rw (← same)
-    (injects-begun a b events old goes (rw none at (c.inject_stream.ensures.begun r))) in
+    (injects-begun a b events old goes (rw none at (c.inject_all.ensures.begun r))) in
     record {
       done =
-          on_ok_weaker c.inject_stream.result
+          on_ok_weaker c.inject_all.result
           (λ h. rw (← same)
           (injects-all a b events old new goes
           (rw none at (h r))))
-          c.inject_stream.ensures.done;
+          c.inject_all.ensures.done;
       begun = begun;
       actor = search rules;
       left = begins-left _ _ _ begun;

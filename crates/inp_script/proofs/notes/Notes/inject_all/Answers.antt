@@ -1,39 +1,67 @@
-use Rattle.std.proofs.Common.{sym}
-use Rattle.inp_script.proofs.Batches.{are-made, all-noted, some-noted}
+use Rattle.std.proofs.Common.{◌≡◌, ◌≤◌, ℕ, Bool, false, ◌∙◌, arith}
+use Rattle.std.specs.Prelude.{min, nat_eq}
+use Rattle.std.proofs.lemmas.Bool.Decides.{nat_tests}
+use Rattle.std.proofs.lemmas.List.{nil_from_length}
+use Rattle.inp_script.proofs.Batches.{take-in_time, drop-in_time}
+use Rattle.inp_script.proofs.Streams.{injected-none, injected-more, injected-refused, injected-so_far}
+use Rattle.inp_script.proofs.Streams.{injected-begun, injected-all}
 use Rattle.inp_script.proofs.notes.Notes.inject_all.Goals as goal
 
-pub returns-in_err-note_entered-clause-made : goal.returns-in_err-note_entered-clause-made
-returns-in_err-note_entered-clause-made g c =
-    are-made _ _ c.args.events.now c.inject_all-injected.result c.requires.some
-    c.inject_all-injected.ensures.injected
+-- where something is left, a part of it has an event
+some_part : (n part : ℕ) (is_empty : Bool) → part ≡ min n 1024 → is_empty ≡ nat_eq n 0 → is_empty ≡ false
+    → 1 ≤ part
+some_part n part is_empty least says more = grind (arith, nat_tests, least, says, more)
 
-pub returns-in_default-clause-noted : goal.returns-in_default-clause-noted
-returns-in_default-clause-noted g c =
-    all-noted _ _ c.args.events.now c.split_at.result.0.now c.inject_all-injected.result c.args.self.now
-    c.note_entered.new.self c.requires.some c.inject_all-injected.ensures.injected c.split_at.ensures.front
-    (rw (← c.split_at.ensures.back) (sym c.in_default.ensures.value)) c.in_ok-note_entered.ensures
+-- before the first part no event is injected, and all are in time
+pub loop-rest-init : goal.loop-rest-init
+loop-rest-init g c = injected-none _ _ _ c.requires.in_time
 
-pub returns-in_default-clause-made : goal.returns-in_default-clause-made
-returns-in_default-clause-made g c =
-    are-made _ _ c.args.events.now c.inject_all-injected.result c.requires.some
-    c.inject_all-injected.ensures.injected
+-- a part of the rest is in time, as all of it is
+pub inject_all-injected-requires : goal.inject_all-injected-requires
+inject_all-injected-requires g c = record {
+  moments = rw c.split_at.ensures.front (take-in_time c.min.result _ c.loop-rest.invariant.in_time);
+}
 
-pub returns-in_err-note-clause-made : goal.returns-in_err-note-clause-made
-returns-in_err-note-clause-made g c =
-    are-made _ _ c.args.events.now c.inject_all-injected.result c.requires.some
-    c.inject_all-injected.ensures.injected
+pub returns-in_err-note_injected-clause-begun : goal.returns-in_err-note_injected-clause-begun
+returns-in_err-note_injected-clause-begun g c r =
+    injected-begun _ _ _ _ _ _ _ _ _ _ c.loop-rest.invariant c.split_at.ensures.by_index.0
+    (some_part _ _ _ (c.split_at.ensures.front_len ∙ c.min.ensures) c.is_empty.ensures c.loop-rest-test.true)
+    c.inject_all-injected.ensures.injected r
 
-pub returns-clause-noted : goal.returns-clause-noted
-returns-clause-noted g c =
-    let mid = c.note_entered.new.self in
-    let injected = c.inject_all-injected.result in
-    some-noted _ _ c.args.events.now c.split_at.result.0.now c.in-Some.refused.now injected c.args.self.now
-    mid c.note.new.self c.requires.some c.inject_all-injected.ensures.injected c.split_at.ensures.front
-    (rw (← c.split_at.ensures.back) (sym c.in-Some.ensures.value)) c.in_ok-note_entered.ensures
-    (rw (c.in_ok-note.ensures, c.injecting.ensures.step))
+-- an event of the part was refused, which ends the stream
+pub returns-then-not-branch-clause-done : goal.returns-then-not-branch-clause-done
+returns-then-not-branch-clause-done g c r =
+    injected-refused _ _ _ _ _ _ _ _ _ _ c.loop-rest.invariant c.split_at.ensures.by_index.0
+    (some_part _ _ _ (c.split_at.ensures.front_len ∙ c.min.ensures) c.is_empty.ensures c.loop-rest-test.true)
+    c.inject_all-injected.ensures.injected c.note_injected.new.self
+    (rw c.if-not-branch.true at c.in_ok-note_injected.ensures.all) c.in_ok-note_injected.ensures.noted r
 
--- where an event was refused, the calls up to it were made, and its own
-pub returns-clause-made : goal.returns-clause-made
-returns-clause-made g c =
-    are-made _ _ c.args.events.now c.inject_all-injected.result c.requires.some
-    c.inject_all-injected.ensures.injected
+-- the part's calls, up to the refused one, follow those before
+pub returns-then-not-branch-clause-begun : goal.returns-then-not-branch-clause-begun
+returns-then-not-branch-clause-begun g c r =
+    injected-begun _ _ _ _ _ _ _ _ _ _ c.loop-rest.invariant c.split_at.ensures.by_index.0
+    (some_part _ _ _ (c.split_at.ensures.front_len ∙ c.min.ensures) c.is_empty.ensures c.loop-rest-test.true)
+    c.inject_all-injected.ensures.injected r
+
+-- all of the part was entered, so the stream goes on with what is behind it
+pub loop-rest-preserved : goal.loop-rest-preserved
+loop-rest-preserved g c =
+    injected-more _ _ _ _ _ _ _ _ _ _ c.loop-rest.invariant c.split_at.ensures.by_index.0
+    (some_part _ _ _ (c.split_at.ensures.front_len ∙ c.min.ensures) c.is_empty.ensures c.loop-rest-test.true)
+    c.inject_all-injected.ensures.injected c.note_injected.new.self
+    (rw c.split_at.ensures.back
+    (drop-in_time c.min.result c.loop-rest.rest.now c.loop-rest.invariant.in_time))
+    (rw c.if-not-branch.false at c.in_ok-note_injected.ensures.all) c.in_ok-note_injected.ensures.noted
+
+-- nothing is left of the stream, so all of it was injected
+pub returns-clause-done : goal.returns-clause-done
+returns-clause-done g c r =
+    injected-all _ _ c.args.stream.now c.loop-rest.rest.now c.args.self.now c.loop-rest.self
+    (nil_from_length c.loop-rest.rest.now
+    (grind (arith, nat_tests, c.is_empty.ensures, c.loop-rest-test.false))) c.loop-rest.invariant r
+
+-- with nothing left of the stream, its calls are those made
+pub returns-clause-begun : goal.returns-clause-begun
+returns-clause-begun g c r =
+    injected-so_far _ _ c.args.stream.now c.loop-rest.rest.now c.args.self.now c.loop-rest.self
+    c.loop-rest.invariant r

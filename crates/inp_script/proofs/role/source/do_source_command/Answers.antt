@@ -7,19 +7,19 @@ use Rattle.inp_script.proofs.role.source.do_source_command.Goals as goal
 
 pub returns-in-Some-clause-done : goal.returns-in-Some-clause-done
 returns-in-Some-clause-done g c =
-    on_ok_weaker c.inject_stream.result
+    on_ok_weaker c.inject_all.result
     (λ h r.
     rw (source_talk-stream c.args.rec.now.streams c.args.command.now c.in-Some.index c.as_slice.result.now
     (job_of r c.args.notes.now) (sym c.stream_index.ensures.index ∙ c.in-Some.is)
     (rw (c.stream.ensures.stream, ← c.as_slice.ensures.items))) (h r))
-    c.inject_stream.ensures.done
+    c.inject_all.ensures.done
 
 -- the command names a stream, whose first calls were made
 pub returns-in-Some-clause-begun : goal.returns-in-Some-clause-begun
 returns-in-Some-clause-begun g c r =
     rw (source_talk-stream c.args.rec.now.streams c.args.command.now c.in-Some.index c.as_slice.result.now
     (job_of r c.args.notes.now) (sym c.stream_index.ensures.index ∙ c.in-Some.is)
-    (rw (c.stream.ensures.stream, ← c.as_slice.ensures.items))) (c.inject_stream.ensures.begun r)
+    (rw (c.stream.ensures.stream, ← c.as_slice.ensures.items))) (c.inject_all.ensures.begun r)
 
 -- a command that takes no stream
 none_of : (o : Option ℕ) → ((index : ℕ) → o ≡ Some index → ⊥) → o ≡ None
