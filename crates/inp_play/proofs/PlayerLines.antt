@@ -27,7 +27,8 @@ use Rattle.inp_script.specs.Owner.{OwnerState, after_feedback, FeedsUnless, Feed
 use Rattle.inp_runs.specs.Play.{feedback_calls_after, after_talk, unless_owner_stopped, after_line_of}
 use Rattle.inp_play.specs.Player.{pasts_of, feedback_calls_of}
 use Rattle.inp_play.proofs.Common.{Stage, after_line, after_lines, stage_with, HasDevices, HasActors}
-use Rattle.inp_play.proofs.Common.{inject_line, Stop}
+use Rattle.inp_runs.specs.EventLines.{inject_line}
+use Rattle.inp_play.proofs.Common.{Stop}
 use Rattle.inp_runs.proofs.order.Alone.{device-alone}
 use Rattle.inp_runs.proofs.Lists.{map-set_same, slice_get-set}
 use Rattle.inp_runs.proofs.order.LineDone.{set_same}

@@ -1,55 +1,22 @@
 -- Lines that follow each other and inject events of one source leave what the talk of all these events
 -- leaves.
-use Rattle.std.proofs.Common.{◌≡◌, ◌≤◌, ℕ, ◌+◌, Bool, true, false, if◌then◌else◌, List, [], ◌∷◌, length, map}
-use Rattle.std.proofs.Common.{take, drop, Option, Some, None, refl, sym, ap, ◌∙◌, arith}
+use Rattle.std.proofs.Common.{◌≡◌, ℕ, Bool, true, false, if◌then◌else◌, List, [], ◌∷◌, length, map}
+use Rattle.std.proofs.Common.{Option, Some, None, refl, sym, ap, ◌∙◌}
 use Rattle.std.specs.Prelude.{slice_get, slice_set, option_map, option_and_then}
 use Rattle.std.proofs.lemmas.List.{set-set}
-use Rattle.std.proofs.lemmas.Option.{slice_get-map}
 use Rattle.inp_model.specs.Reply.{done_answer, is_full}
-use Rattle.inp_script.proofs.Common.{Stamped, Step, ActorText, Line, Source, RecordView, IsRecord}
+use Rattle.inp_script.proofs.Common.{Stamped, Step, ActorText, Line, Source, RecordView}
 use Rattle.inp_script.proofs.Common.{Job, ActorView, Answer, answer_by, is_accepted, past_after, Refused}
 use Rattle.inp_script.proofs.Common.{Talk, finish, talk_with, unless_stopped, inject_talk, line_talk}
 use Rattle.inp_script.proofs.Common.{after_call, call_talk, stream_talk}
-use Rattle.inp_model.specs.Injection.{AreInTime, inject_of}
+use Rattle.inp_model.specs.Injection.{inject_of}
 use Rattle.inp_script.specs.declared.stop.Stop.TheVariants.{Full}
 use Rattle.inp_runs.specs.Play.{after_talk, after_line_of}
-use Rattle.inp_play.proofs.Common.{Stage, after_line, after_lines, inject_line, Stop}
+use Rattle.inp_runs.specs.EventLines.{inject_line}
+use Rattle.inp_play.proofs.Common.{Stage, after_line, after_lines, Stop}
 use Rattle.inp_runs.proofs.order.LineDone.{set_same}
-use Rattle.inp_runs.proofs.EventLines.{dropped, event-in_time, event-source, taken}
 use Rattle.inp_runs.proofs.Lists.{slice_get-set_same}
 use Rattle.inp_model.specs.declared.reply.Refusal.TheVariants.{LogFull}
-
--- Which lines they are
-
--- Lines from this number on inject these events of an actor.
-abbrev pub AreInjects : RecordView → ℕ → ℕ → ℕ → List Stamped → Type 0
-AreInjects r number count actor events = take count (drop number r.lines) ≡ map (inject_line actor) events
-
-inject-at : (r : RecordView) (number count actor i : ℕ) (events : List Stamped) (s : Stamped)
-    → AreInjects r number count actor events → slice_get events i ≡ Some s
-    → slice_get r.lines (number + i) ≡ Some (inject_line actor s)
-inject-at r number count actor i events s are h =
-    dropped number i r.lines (inject_line actor s)
-    (taken count i (drop number r.lines) (inject_line actor s)
-    (rw (are, slice_get-map (inject_line actor) events i, h)))
-
--- each event stands in a line of the record, whose moments are within their limit
-pub injects-in_time : (r : RecordView) (number count actor : ℕ) (text : ActorText) (events : List Stamped)
-    → IsRecord r → slice_get r.actors actor ≡ Some text → AreInjects r number count actor events
-    → AreInTime events
-injects-in_time r number count actor text events keeps is_text are i s h =
-    event-in_time r (number + i) actor text s keeps is_text (inject-at r number count actor i events s are h)
-
--- the actor is a source
-pub injects-source : (r : RecordView) (number count actor : ℕ) (text : ActorText) (events : List Stamped)
-    → IsRecord r → slice_get r.actors actor ≡ Some text → AreInjects r number count actor events
-    → 1 ≤ length events → text.role ≡ Source
-injects-source r number count actor text [] keeps is_text are some = absurd (omega (arith, some))
-injects-source r number count actor text (s ∷ events) keeps is_text are some =
-    event-source r (number + 0) actor text s keeps is_text
-    (inject-at r number count actor 0 (s ∷ events) s are refl)
-
--- What they leave
 
 -- a line whose actor's text, actor and device's past are found
 pub line-finds : (r : RecordView) (n : ℕ) (s : Stage) (line : Line) (text : ActorText) (a : ActorView)

@@ -16,6 +16,5 @@
 mod gathered_runs;
 mod one_thread;
 mod player;
-mod run;
 
 pub use one_thread::play;

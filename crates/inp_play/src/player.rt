@@ -6,13 +6,15 @@ ghost use Rattle.inp_runs.specs.Play.{first_stage, runs_of};
 ghost use Rattle.inp_play.specs.Player.{stage_of, first_device, first_actors, HasActors, IsPlayer, DoesOn};
 
 use crate::gathered_runs::{histories, push_end};
-use crate::run::{RUN_MAX, gather_front};
 use inp_actors::Record;
 use inp_model::{NoMemory, Stamped};
-use inp_runs::NO_STAMPED;
+use inp_runs::{NO_STAMPED, gather_front};
 use inp_script::{Actor, Played};
 use inp_uinput::Owned;
 use std::alloc::Global;
+
+/// How many lines are done together at most (this project's choice).
+const RUN_MAX: usize = 64;
 
 /// The devices and the actors of a record, each in file order, with what they did so far.
 #[derive(Drop)]

@@ -1,17 +1,16 @@
 -- Lines that each inject an event: whose lines they are, and what a record keeps of them.
 use Rattle.std.proofs.Common.{◌≡◌, ◌≤◌, ◌<◌, ◌+◌, ◌-◌, ℕ, zero, suc, true, List, [], ◌∷◌, length, map, take}
 use Rattle.std.proofs.Common.{drop, Option, Some, refl, sym, ap, ◌∙◌, arith}
-use Rattle.std.proofs.lemmas.List.{take-map, drop-map, length-drop}
+use Rattle.std.proofs.lemmas.List.{take-map, take-take, drop-map, length-drop}
 use Rattle.inp_actors.specs.Command.{is_source}
-use Rattle.inp_runs.proofs.Common.{option_map, take_all, nat_tests, slice_get-map, slice_get_within, Stamped}
+use Rattle.inp_runs.proofs.Common.{take_all, nat_tests, slice_get-map, Stamped}
 use Rattle.inp_runs.proofs.Common.{ActorText, Line, Role, Source, RecordView, IsRecord, lines_by}
+use Rattle.std.specs.List.{range_with_len}
 use Rattle.std.specs.Prelude.{slice_get, nat_le}
 use Rattle.inp_model.specs.declared.stamped.TheConstants.{MOMENT_MAX}
 use Rattle.inp_model.specs.Injection.{AreInTime}
 use Rattle.inp_runs.specs.DoingAll.{AreNumbersOf}
-use Rattle.inp_runs.specs.EventLines.{AreEventLines, inject_line}
-use Rattle.inp_runs.proofs.DoingAll.{own-line}
-use Rattle.inp_runs.proofs.Lists.{option_map-some}
+use Rattle.inp_runs.specs.EventLines.{inject_line}
 
 is-source : (role : Role) → is_source role ≡ true → role ≡ Source
 is-source Source h = refl
@@ -20,7 +19,7 @@ is-source _ h = absurd cc
 -- Parts of lists
 
 -- an element among the first n has the same place in the whole list
-pub taken : {A : Type 0} (n i : ℕ) (xs : List A) (x : A) → slice_get (take n xs) i ≡ Some x
+taken : {A : Type 0} (n i : ℕ) (xs : List A) (x : A) → slice_get (take n xs) i ≡ Some x
     → slice_get xs i ≡ Some x
 taken zero i xs x h = absurd (cc h)
 taken (suc n) i [] x h = absurd (cc h)
@@ -28,7 +27,7 @@ taken (suc n) zero (y ∷ xs) x h = h
 taken (suc n) (suc i) (y ∷ xs) x h = taken n i xs x h
 
 -- an element behind the first n has a place higher by n in the whole list
-pub dropped : {A : Type 0} (n i : ℕ) (xs : List A) (x : A) → slice_get (drop n xs) i ≡ Some x
+dropped : {A : Type 0} (n i : ℕ) (xs : List A) (x : A) → slice_get (drop n xs) i ≡ Some x
     → slice_get xs (n + i) ≡ Some x
 dropped {A} zero i xs x h = let same : i ≡ 0 + i = omega arith in rw same at h
 dropped (suc n) i [] x h = absurd (cc h)
@@ -49,9 +48,29 @@ somes-same (x ∷ xs) (y ∷ ys) h =
     let rest : map Some xs ≡ map Some ys = cc in
     (λ i. first i ∷ somes-same xs ys rest i)
 
+-- the element at a place, and what is behind it
+item : {X : Type 0} (xs : List X) (n : ℕ) → n < length xs
+    → (x : X) × (slice_get xs n ≡ Some x) × (drop n xs ≡ x ∷ drop (suc n) xs)
+item [] n h = absurd (omega (arith, h))
+item (x ∷ xs) zero h = (x, refl, refl)
+item (x ∷ xs) (suc n) h = item xs n (omega (arith, h))
+
+-- so many elements from a place on, each by its number
+range-items : {X : Type 0} (xs : List X) (first count : ℕ) → first + count ≤ length xs
+    → map (slice_get xs) (range_with_len first count) ≡ map Some (take count (drop first xs))
+range-items xs first zero h = refl
+range-items {X} xs first (suc count) h =
+    let one = item xs first (omega (arith, h)) in
+    let next : first + 1 ≡ suc first = omega arith in
+    let more : map (slice_get xs) (range_with_len (first + 1) count)
+    ≡ map Some (take count (drop (suc first) xs)) =
+    range-items xs (first + 1) count (omega (arith, h))
+    ∙ ap (λ (n : ℕ). map Some (take count (drop n xs))) next in
+    (λ i. one.1 i ∷ more i) ∙ ap (λ (ys : List X). map Some (take (suc count) ys)) (sym one.2)
+
 module _ (r : RecordView) where
   -- the moment of each line of a record is within its range
-  pub event-in_time : (number actor : ℕ) (text : ActorText) (s : Stamped) → IsRecord r
+  event-in_time : (number actor : ℕ) (text : ActorText) (s : Stamped) → IsRecord r
       → slice_get r.actors actor ≡ Some text → slice_get r.lines number ≡ Some (inject_line actor s)
       → s.now ≤ MOMENT_MAX
   event-in_time number actor text s keeps is_text there =
@@ -60,60 +79,75 @@ module _ (r : RecordView) where
       grind (arith, nat_tests, range)
 
   -- its actor is a source
-  pub event-source : (number actor : ℕ) (text : ActorText) (s : Stamped) → IsRecord r
+  event-source : (number actor : ℕ) (text : ActorText) (s : Stamped) → IsRecord r
       → slice_get r.actors actor ≡ Some text → slice_get r.lines number ≡ Some (inject_line actor s)
       → text.role ≡ Source
   event-source number actor text s keeps is_text there =
       is-source text.role (keeps.commands number (inject_line actor s) text there is_text)
 
-  -- Lines by their numbers
+  -- Lines of one actor that follow each other
 
-  -- an event's line is one of the record
-  event-line : (actor i : ℕ) (numbers : List ℕ) (events : List Stamped) (s : Stamped)
-      → AreEventLines r actor numbers events → slice_get events i ≡ Some s
-      → (number : ℕ) × (slice_get r.lines number ≡ Some (inject_line actor s))
-  event-line actor i numbers events s are there =
-      let line : option_map (slice_get r.lines) (slice_get numbers i) ≡ Some (Some (inject_line actor s)) =
-      rw (← slice_get-map, are, slice_get-map, slice_get-map, there) in
-      let image =
-      option_map-some (slice_get r.lines) (slice_get numbers i) (Some (inject_line actor s)) line in
-      (image.from, image.same)
+  -- Lines from this number on inject these events of an actor.
+  abbrev pub AreInjects : ℕ → ℕ → ℕ → List Stamped → Type 0
+  AreInjects number count actor events = take count (drop number r.lines) ≡ map (inject_line actor) events
 
-  -- each event has a line of the record, whose moment is within its range
-  pub events-in_time : (actor : ℕ) (text : ActorText) (numbers : List ℕ) (events : List Stamped) → IsRecord r
-      → slice_get r.actors actor ≡ Some text → AreEventLines r actor numbers events → AreInTime events
-  events-in_time actor text numbers events keeps is_text are i s there =
-      let line = event-line actor i numbers events s are there in
-      event-in_time line.0 actor text s keeps is_text line.1
+  inject-at : (number count actor i : ℕ) (events : List Stamped) (s : Stamped)
+      → AreInjects number count actor events → slice_get events i ≡ Some s
+      → slice_get r.lines (number + i) ≡ Some (inject_line actor s)
+  inject-at number count actor i events s are h =
+      dropped number i r.lines (inject_line actor s)
+      (taken count i (drop number r.lines) (inject_line actor s)
+      (rw (are, slice_get-map (inject_line actor) events i, h)))
 
-  -- the first event has a line of the actor, and only a source has lines that inject
-  pub events-source : (actor : ℕ) (text : ActorText) (numbers : List ℕ) (events : List Stamped) → IsRecord r
-      → slice_get r.actors actor ≡ Some text → AreEventLines r actor numbers events → 1 ≤ length events
+  -- each event stands in a line of the record, whose moments are within their limit
+  pub injects-in_time : (number count actor : ℕ) (text : ActorText) (events : List Stamped) → IsRecord r
+      → slice_get r.actors actor ≡ Some text → AreInjects number count actor events → AreInTime events
+  injects-in_time number count actor text events keeps is_text are i s h =
+      event-in_time (number + i) actor text s keeps is_text (inject-at number count actor i events s are h)
+
+  -- the actor is a source
+  pub injects-source : (number count actor : ℕ) (text : ActorText) (events : List Stamped) → IsRecord r
+      → slice_get r.actors actor ≡ Some text → AreInjects number count actor events → 1 ≤ length events
       → text.role ≡ Source
-  events-source actor text numbers [] keeps is_text are some = absurd (omega (arith, some))
-  events-source actor text numbers (s ∷ events) keeps is_text are some =
-      let line = event-line actor 0 numbers (s ∷ events) s are refl in
-      event-source line.0 actor text s keeps is_text line.1
+  injects-source number count actor text [] keeps is_text are some = absurd (omega (arith, some))
+  injects-source number count actor text (s ∷ events) keeps is_text are some =
+      event-source (number + 0) actor text s keeps is_text
+      (inject-at number count actor 0 (s ∷ events) s are refl)
+
+  -- of lines that are gathered from a number on, the first so many are such lines
+  pub gathered-injects : (number gathered count actor : ℕ) (all : List Line) (events : List Stamped)
+      → all ≡ r.lines → count ≤ gathered
+      → take gathered (take (length all - number) (drop number all))
+      ≡ map (inject_line actor) (take gathered events)
+      → AreInjects number count actor (take count events)
+  gathered-injects number gathered count actor all events same few are =
+      let lines : List Line = drop number all in
+      let from_here : take gathered lines ≡ map (inject_line actor) (take gathered events) =
+      rw whole at are in
+      ap (λ (ls : List Line). take count (drop number ls)) (sym same)
+      ∙ sym (take-take count gathered lines few) ∙ ap (take count) from_here
+      ∙ take-map (inject_line actor) count (take gathered events)
+      ∙ ap (map (inject_line actor)) (take-take count gathered events few)
+
+  pub gathered-within : (number gathered count : ℕ) (all : List Line) → all ≡ r.lines
+      → number < length r.lines → count ≤ gathered
+      → gathered ≤ length (take (length all - number) (drop number all)) → number + count ≤ length r.lines
+  gathered-within number gathered count all same below few long =
+      omega (arith, few, long, ap length (whole all number), length-drop number all, ap length same, below)
 
   -- Lines of an actor's own
 
-  -- their numbers are those of lines
-  pub own-within : (actor count from : ℕ) (numbers : List ℕ) → AreNumbersOf r actor numbers → (i number : ℕ)
-      → slice_get (take count (drop from numbers)) i ≡ Some number → number < length r.lines
-  own-within actor count from numbers own i number at =
-      let its =
-      own-line r actor numbers (from + i) number own
-      (dropped from i numbers number (taken count i (drop from numbers) number at)) in
-      slice_get_within r.lines number its.line its.is_line
-
-  -- they follow each other among them
-  pub own-events : (actor from count : ℕ) (numbers : List ℕ) (events : List Stamped)
-      → AreNumbersOf r actor numbers → AreEventLines r actor (take count (drop from numbers)) events
+  -- where their numbers rise by one each, they are those that follow the first one in the record
+  pub own-injects : (actor from first count : ℕ) (numbers : List ℕ) (events : List Stamped)
+      → AreNumbersOf r actor numbers → take count (drop from numbers) ≡ range_with_len first count
+      → first + count ≤ length r.lines → AreInjects first count actor events
       → take count (drop from (lines_by actor r.lines)) ≡ map (inject_line actor) events
-  own-events actor from count numbers events own are =
+  own-injects actor from first count numbers events own rise within are =
       let lines : List Line = lines_by actor r.lines in
       somes-same (take count (drop from lines)) (map (inject_line actor) events)
       (sym (take-map Some count (drop from lines)) ∙ ap (take count) (sym (drop-map Some from lines))
       ∙ ap (λ (ls : List (Option Line)). take count (drop from ls)) (sym own)
       ∙ ap (take count) (drop-map (slice_get r.lines) from numbers)
-      ∙ take-map (slice_get r.lines) count (drop from numbers) ∙ are)
+      ∙ take-map (slice_get r.lines) count (drop from numbers)
+      ∙ ap (map (slice_get r.lines)) rise
+      ∙ range-items r.lines first count within ∙ ap (map Some) are)

@@ -1,12 +1,13 @@
 //! All lines of an actor, over any device.
 ghost use Rattle.std.specs.Prelude.{◌≡◌, ◌+◌, ◌≤◌, ◌<◌, false, length, drop, take, IfOk, IfSome, OnOk};
+ghost use Rattle.std.specs.List.{range_with_len};
 ghost use Rattle.inp_actors.specs.Command.{is_owner};
 ghost use Rattle.inp_script.specs.ActorLine.{IsActedOn};
 ghost use Rattle.inp_script.specs.DoneLine.{HasActor, IsWaiting};
 ghost use Rattle.inp_runs.specs.DoingAll.{ActsAll, ActsSome, AreNumbersOf, EndsLines};
 ghost use Rattle.inp_runs.specs.Job.{lines_by};
 
-use crate::event_lines::{NO_STAMPED, gather_adjacent};
+use crate::event_lines::{NO_STAMPED, gather_front};
 use inp_actors::{Record, Role};
 use inp_feedback::{FEEDBACK_MAX, Feeds};
 use inp_model::{Evdev, NoMemory};
@@ -27,7 +28,7 @@ const _: () = prove!(LINES_MAX == FEEDBACK_MAX);
 /// lines would make one by one.
 ///
 /// `lines` must be the numbers of the actor's lines, from 0 over the whole record, in file order (`AreNumbersOf`). No
-/// other line is looked at. Where a [`Waiting`] is given the lines may wait, and a source that did not stop says at the
+/// other line is done. Where a [`Waiting`] is given the lines may wait, and a source that did not stop says at the
 /// end that it is done, by the step `End`.
 ///
 /// `NoMemory` comes where memory is short for what the actor saw or was told, or for a client that it opened. No line
@@ -91,13 +92,34 @@ fn do_some<D: Evdev + Feeds>(
     ensures left { IsActedOn D.told D.feeds actor.old.role dev.old dev.new }
 {
     let mut events = [NO_STAMPED; LINES_MAX];
-    let count = gather_adjacent(rec, &lines[from..], number, &mut events);
+    let first = lines[from];
+    let gathered = gather_front(
+        &rec.lines().as_slice()[first as usize..],
+        number,
+        &mut events,
+    );
+    let count = adjacent_count(first, &lines[from..], gathered);
     if count < 2 {
-        actor.do_line(dev, rec, lines[from], wait)?;
+        actor.do_line(dev, rec, first, wait)?;
         return Ok(1);
     }
     actor.inject_all(dev, &events[..count])?;
     Ok(count)
+}
+
+// How many of these numbers rise by one each from the first one on: no more than so many.
+fn adjacent_count(first: u32, numbers: &[u32], most: usize) -> usize
+    ensures most { result ≤ most }
+    ensures within { result ≤ length numbers.now }
+    ensures adjacent { take result numbers.now ≡ range_with_len first result }
+{
+    let most = most.min(numbers.len());
+    for at in 0..most {
+        if numbers[at] as usize != first as usize + at {
+            return at;
+        }
+    }
+    most
 }
 
 // Does what an actor does when its lines are done.

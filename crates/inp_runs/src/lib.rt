@@ -19,9 +19,9 @@
 //! (`ActsAll`, `specs/DoingAll.antt`). The lines were done in file order, and a source of a device where lines wait
 //! then said that it is done. Those of an owner are feedback calls, one after another (`AreOwned`). Those of any other
 //! actor are calls of an evdev: they are those of its lines' talk, and the job is their result (`DoesAll`). Lines of a
-//! source that stand next to each other in the record and each inject an event ([`event_of`]) are done together, by one
-//! call of the device. To the history it is the calls that the lines would make one by one. After want of memory too
-//! all that was done with the device is such calls (`IsActedOn`).
+//! source that stand next to each other in the record and each inject an event ([`gather_front`]) are done together, by
+//! one call of the device. To the history it is the calls that the lines would make one by one. After want of memory
+//! too all that was done with the device is such calls (`IsActedOn`).
 //!
 //! An owner of a device that is made by requests makes no step. What is promised of it is `HasOwned`
 //! (`specs/Owner.antt`). The feedback calls among the steps that its device kept are those of its lines, in file order,
@@ -46,4 +46,4 @@ mod event_lines;
 pub mod laws;
 
 pub use actor_lines::do_lines;
-pub use event_lines::{NO_STAMPED, event_of};
+pub use event_lines::{NO_STAMPED, gather_front};

@@ -1,17 +1,17 @@
-use Rattle.std.proofs.Common.{◌≡◌, ◌≤◌, ◌<◌, ℕ, ◌+◌, ◌-◌, List, length, map, take, drop, refl, sym, ap, subst}
+use Rattle.std.proofs.Common.{◌≡◌, ◌≤◌, ℕ, ◌+◌, length, take, drop, refl, sym, ap, subst}
 use Rattle.std.proofs.Common.{◌∙◌, Some, arith}
 use Rattle.std.specs.Prelude.{slice_set}
-use Rattle.std.proofs.lemmas.List.{take_all, length-drop, length-take-le}
-use Rattle.inp_script.proofs.Common.{Stamped, ActorText, Line, RecordView, ActorView}
+use Rattle.std.proofs.lemmas.List.{length-take-le}
+use Rattle.inp_script.proofs.Common.{ActorText, Line, RecordView, ActorView}
 use Rattle.inp_model.proofs.Leaves.{description-kept}
 use Rattle.inp_uinput.specs.UdevView.{owned_view}
 use Rattle.inp_play.specs.declared.player.Player.{Player}
-use Rattle.inp_play.proofs.Common.{UdevView, stage_of, stage_with, HasDevices, HasActors, inject_line}
+use Rattle.inp_play.proofs.Common.{UdevView, stage_of, stage_with, HasDevices, HasActors}
 use Rattle.inp_play.proofs.Common.{after_lines}
 use Rattle.inp_play.proofs.PlayerLines.{IsFound, found-line, found-description, found-same_role, same_item}
 use Rattle.inp_play.proofs.PlayerLines.{act_does, act_described, inject_does, devices_stay, actors_stay}
 use Rattle.inp_play.proofs.PlayerSteps.{IsDone, found_by, one-line}
-use Rattle.inp_play.proofs.RunLines.{AreInjects, injects-in_time, injects-source}
+use Rattle.inp_runs.proofs.EventLines.{gathered-injects, gathered-within, injects-in_time, injects-source}
 use Rattle.inp_play.proofs.player.Player.lines.Goals as goal
 
 -- What lines leave that an actor did on its device
@@ -94,19 +94,6 @@ returns-then-count-eq0 c =
 
 -- Lines that inject events of one source
 
-whole : (all : List Line) (number : ℕ) → take (length all - number) (drop number all) ≡ drop number all
-whole all number = take_all (length all - number) (drop number all) (omega (arith, length-drop number all))
-
-are_injects : (r : RecordView) (number count actor : ℕ) (all : List Line) (events : List Stamped)
-    → all ≡ r.lines → take count (take (length all - number) (drop number all))
-    ≡ map (inject_line actor) events → AreInjects r number count actor events
-are_injects r number count actor all events same gathered = rw (← same, ← whole all number) gathered
-
-within_all : (number count : ℕ) (all lines : List Line) → all ≡ lines → number < length lines
-    → count ≤ length (take (length all - number) (drop number all)) → number + count ≤ length lines
-within_all number count all lines same below few =
-    omega (arith, few, ap length (whole all number), length-drop number all, ap length same, below)
-
 -- an event was gathered of the actor's lines, so it is a source
 pub inject_all-requires-clause-source : goal.inject_all-requires-clause-source
 inject_all-requires-clause-source c =
@@ -118,8 +105,9 @@ inject_all-requires-clause-source c =
     c.lines-lines.ensures.lines c.get-text.ensures.item c.actors.ensures.actors c.get.ensures.item
     c.index_mut-actor.ensures.value c.index_mut-dev.ensures.value in
     let are =
-    are_injects r c.args.line count c.get-text.result.now.actor c.as_slice.result.now _
-    (c.as_slice.ensures.items ∙ c.lines-lines.ensures.lines) c.gather_front-count.ensures.gathered in
+    gathered-injects r c.args.line count count c.get-text.result.now.actor c.as_slice.result.now _
+    (c.as_slice.ensures.items ∙ c.lines-lines.ensures.lines) (omega arith)
+    c.gather_front-count.ensures.gathered in
     sym
     (found-same_role r c.args.self.now.devices.items c.args.self.now.actors.items c.args.line
     c.get-text.result.now c.get.result.now c.index_mut-actor.result.now c.index_mut-dev.result.now f)
@@ -142,8 +130,10 @@ inject_all-requires-clause-moments c =
     c.index_mut-actor.ensures.value c.index_mut-dev.ensures.value in
     injects-in_time r c.args.line c.gather_front-count.result c.get-text.result.now.actor c.get.result.now _
     c.lines-lines.ensures.record f.is_text
-    (are_injects r c.args.line c.gather_front-count.result c.get-text.result.now.actor c.as_slice.result.now _
-    (c.as_slice.ensures.items ∙ c.lines-lines.ensures.lines) c.gather_front-count.ensures.gathered)
+    (gathered-injects r c.args.line c.gather_front-count.result c.gather_front-count.result
+    c.get-text.result.now.actor c.as_slice.result.now _
+    (c.as_slice.ensures.items ∙ c.lines-lines.ensures.lines) (omega arith)
+    c.gather_front-count.ensures.gathered)
 
 -- the gathered lines were done by one call, which injected their events
 pub returns : goal.returns
@@ -163,8 +153,8 @@ returns c =
     c.index_mut-actor.ensures.value c.index_mut-dev.ensures.value in
     let same = c.as_slice.ensures.items ∙ c.lines-lines.ensures.lines in
     let are =
-    are_injects r number count line.actor c.as_slice.result.now _ same c.gather_front-count.ensures.gathered
-    in
+    gathered-injects r number count count line.actor c.as_slice.result.now _ same (omega arith)
+    c.gather_front-count.ensures.gathered in
     let long = length-take-le count c.gather_front-count.new.events c.gather_front-count.ensures.fits in
     let some : 1 ≤ count = omega (arith, c.if-count-eq0.false) in
     let source = sym (found-same_role r old.devices.items old.actors.items number line text a device f)
@@ -175,7 +165,7 @@ returns c =
     let owns = ap (λ (x : ActorView). record a { job = b.job; owning = x.owning }) (sym actor) in
     let all =
     leaves r number count 0 old _ line text a b device after f some
-    (within_all number count c.as_slice.result.now r.lines same c.requires.line
+    (gathered-within r number count count c.as_slice.result.now same c.requires.line (omega arith)
     c.gather_front-count.ensures.within)
     refl refl (actor ∙ owns)
     (description-kept (owned_view device) (owned_view after) holds.calls holds.are_calls)

@@ -1,6 +1,6 @@
 use Rattle.std.proofs.Common.{◌≡◌, length, map, take}
 use Rattle.inp_runs.specs.EventLines.{inject_line}
-use Rattle.inp_play.proofs.run.gather_front.Given as goal
+use Rattle.inp_runs.proofs.event_lines.gather_front.Given as goal
 
 abbrev pub invariant-loop-at : goal.invariant-loop-at
 invariant-loop-at l = record {
