@@ -218,10 +218,11 @@ impl Device {
         }
     }
 
-    /// Injects one event, for which there is room in the history.
+    /// Injects one event, for which there is room in the history, and answers whether it goes to the device itself
+    /// too, to its lights, sounds and settings.
     ///
     /// The caller must pass a moment of at most `MOMENT_MAX`, and see that the history is shorter than the log limit.
-    pub fn enter(&mut self, event: Event, now: u64)
+    pub fn enter(&mut self, event: Event, now: u64) -> bool
         requires moment { now ≤ MOMENT_MAX }
         requires room { length self.old.past < self.old.description.log_limit }
         ensures entered { plain_view self.new
@@ -230,9 +231,11 @@ impl Device {
             + stored_most self.old.description self.old.past (Inject event now) }
         ensures accepted { IsHistory self.new.description self.new.past }
         ensures sent { self.new.sent ≡ goes_out self.old.description self.old.past event }
+        ensures answer { result ≡ goes_out self.old.description self.old.past event }
     {
         self.present.inject(&self.steps, event, now);
         self.steps.push(Step::Inject { event, now }).unwrap();
+        self.present.core.sends()
     }
 
     /// Right after a step that injected or wrote an event: whether that goes to the device itself too, to its lights,

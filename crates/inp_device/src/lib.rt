@@ -20,7 +20,8 @@
 //! one SYN_DROPPED for each client that loses its queue (`stored_most` in `specs/Device.antt`).
 //!
 //! After an event from outside `Device::sent` says whether it goes to the device's own lights, sounds and settings too
-//! (`goes_out` in `specs/Device.antt`). `Device::enter` injects one event where the history has room.
+//! (`goes_out` in `specs/Device.antt`). `Device::enter` injects one event where the history has room, and answers the
+//! same of it.
 //!
 //! `Device::inject_all` says from which place on it entered events and how many of them. They are no more than the log
 //! limit leaves room for, and the history is longer by these, in order.

@@ -3,6 +3,7 @@ use Rattle.std.proofs.Common.{◌≡◌, ℕ, ◌≤◌, ◌<◌, Bool, true, fa
 use Rattle.std.proofs.Common.{take, drop, reverse, sym, ap, ◌∙◌, subst, arith, ℤ, Option, option_to_list, ◌-◌}
 use Rattle.std.proofs.Common.{refl, Some, None, ◌+◌, map, get_or, append_assoc}
 use Rattle.std.specs.Prelude.{nat_le, min}
+use Rattle.std.specs.Bool.{then_some}
 use Rattle.std.proofs.lemmas.List.{reverse-append, length-take, take_min, append-nil, length-drop, take_more}
 use Rattle.std.proofs.lemmas.List.{get_or-take}
 use Rattle.std.proofs.lemmas.Bool.{le-leb, lt-leb}
@@ -31,7 +32,9 @@ use Rattle.inp_feedback.proofs.Lists.{steps_in-kept_of, feedback_count-kept_of, 
 use Rattle.inp_feedback.proofs.Lists.{kept_of-fed, within-more, reverse-cons}
 use Rattle.inp_model.specs.declared.stamped.Stamped.{Stamped}
 use Rattle.inp_model.specs.Injection.{inject_of}
+use Rattle.inp_device.specs.Device.{goes_out}
 use Rattle.inp_device.proofs.Injection.{no_stamped}
+use Rattle.inp_uinput.proofs.SentEvents.{some_if, sends}
 
 -- What waits for the owner
 
@@ -147,6 +150,40 @@ beside_made d past calls capacity x sent old lent after k is sends keeps =
       few = k.few;
       room = k.room;
     }
+
+-- Where the device entered an event
+
+-- a device and its feedback calls, as a contract sees them
+abbrev over : DeviceView → List FeedbackCall → UdevView
+over v calls = record { description = v.description; kept = kept_of v.past calls; agains = v.agains }
+
+-- the step is the newest entry, and all else stays as it was
+pub view_entered : (old new : DeviceView) (calls : List FeedbackCall) (x : Step)
+    → StandsWithin (length old.past) calls
+    → (let now : DeviceView = record old { past = x ∷ old.past } in new ≡ now)
+    → over new calls ≡ record (over old calls) { kept = Made x ∷ kept_of old.past calls }
+view_entered old new calls x within is =
+    ap (λ (v : DeviceView). over v calls) is
+    ∙ ap (λ (kept : List UEntry). record (over old calls) { kept = kept })
+    (kept_of-made old.past calls x within)
+
+-- the event waits for the owner if it goes to the device, and no feedback call was made
+pub beside_entered : (old new : DeviceView) (calls : List FeedbackCall) (capacity : ℕ) (stamped : Stamped)
+    (goes : Bool) (waiting lent after : Buffer Event)
+    → IsKeptBeside old.description old.past calls capacity waiting
+    → (let now : DeviceView = record old { past = inject_of stamped ∷ old.past } in new ≡ now)
+    → goes ≡ goes_out old.description old.past stamped.event → lent ≡ waiting
+    → after ≡ with_sent (then_some goes stamped.event) lent
+    → IsKeptBeside new.description new.past calls capacity after
+beside_entered old new calls capacity stamped goes waiting lent after k is out lends keeps =
+    let x : Step = inject_of stamped in
+    let sent : option_to_list (then_some goes stamped.event) ≡ sent_at_step old.description old.past x =
+    ap option_to_list (some_if goes stamped.event) ∙ sends old.description old.past x goes out in
+    beside_same old.description new.description (x ∷ old.past) new.past calls capacity after
+    (ap (λ (v : DeviceView). v.description) is)
+    (ap (λ (v : DeviceView). v.past) is)
+    (beside_made old.description old.past calls capacity x (then_some goes stamped.event) waiting lent after k
+    lends sent keeps)
 
 -- A feedback call
 

@@ -16,8 +16,8 @@
 //! writes the first events that wait, as many as fit, to the front of the buffer, and the rest of the buffer stays.
 //! What is sent and what waits is what `inp_feedback` says of the kept list. The last 15 at most wait of the events that
 //! were sent to the device and not taken yet. The call is kept, or `Full` comes exactly where as many are kept as the
-//! log limit says. The code asks its device before a step whether the step's event goes to it, and never looks back at
-//! its list.
+//! log limit says. The code is told by its device, after a step, whether the step's event goes to it, and never looks
+//! back at its list.
 //!
 //! By a port ([`FeedbackPort::feedback`], `IsFeedbackTurn` of `specs/FeedbackTurn.antt`) one turn is taken. The call is
 //! answered, and the buffer written, as the device does it for what is kept then, which begins with all that the pass

@@ -1,9 +1,8 @@
 //! A device that was made by requests.
-ghost use Rattle.std.specs.Prelude.{◌≡◌, ◌+◌, ◌≤◌, ◌<◌, true, pos, [], ◌∷◌, length, take, reverse, IfOk};
+ghost use Rattle.std.specs.Prelude.{◌≡◌, ◌+◌, ◌≤◌, ◌<◌, true, pos, [], length, take, reverse, IfOk};
 ghost use Rattle.inp_model.specs.declared.event.TheConstants.{ABS_MAX};
 ghost use Rattle.inp_model.specs.declared.limits.TheConstants.{LOG_MAX, CLIENTS_MAX};
 ghost use Rattle.inp_model.specs.declared.stamped.TheConstants.{MOMENT_MAX};
-ghost use Rattle.inp_model.specs.declared.step.Step.TheVariants.{Inject};
 ghost use Rattle.inp_model.specs.History.{IsHistory};
 ghost use Rattle.inp_model.specs.Description.{is_slot_code};
 ghost use Rattle.inp_model.specs.State.{cell};
@@ -14,7 +13,6 @@ ghost use Rattle.inp_model.specs.Reply.{HasRoom, IsDeviceStep, written, bitmap_o
 ghost use Rattle.inp_model.specs.Evdev.{agains_after};
 ghost use Rattle.inp_model.specs.Injection.{AreInTime, entered_count};
 ghost use Rattle.inp_device.specs.Queries.{visible_to, readable_clients, state_of_client, mask_word_of, repeat_after, HasBits};
-ghost use Rattle.inp_feedback.specs.declared.u_entry.UEntry.TheVariants.{Made};
 ghost use Rattle.inp_feedback.specs.UEntry.{steps_in, kept_after_step, kept_after_events};
 ghost use Rattle.inp_feedback.specs.Feedback.{taken_by_feedback, fed, kept_after_feedback};
 
@@ -132,26 +130,13 @@ impl Udev {
         let room = (self.device.caps().log() as usize).saturating_sub(from);
         let count = events.len().min(room);
         for stamped in &events[..count] {
-            self.enter(stamped.event, stamped.now);
+            let sent = self.device.enter(stamped.event, stamped.now);
+            keep(&mut self.waiting, sent.then_some(stamped.event));
         }
         Injected {
             from: from as u32,
             count: count as u32,
         }
-    }
-
-    // Injects one event, for which there is room in the history.
-    fn enter(&mut self, event: Event, now: u64)
-        requires moment { now ≤ MOMENT_MAX }
-        requires room { length (steps_in self.old.kept) < self.old.description.log_limit }
-        ensures entered { self.new ≡ record self.old {
-          kept = Made (Inject event now) ∷ self.old.kept;
-        } }
-        ensures accepted { IsHistory self.new.description (steps_in self.new.kept) }
-    {
-        self.device.enter(event, now);
-        let sent = self.device.sent().then_some(event);
-        keep(&mut self.waiting, sent);
     }
 
     /// Moves the first of the events that wait for the owner to the front of `out`, as many as fit, and keeps the call.

@@ -1,7 +1,6 @@
 use Rattle.std.proofs.Common.{reverse, sym, subst}
 use Rattle.inp_device.specs.declared.present.Present.{Present}
 use Rattle.inp_device.specs.Present.{PresentStandsFor}
-use Rattle.inp_model.specs.Reply.{written}
 use Rattle.inp_device.proofs.device.Device.readable.Goals as goal
 
 -- what lies behind the pointer stands for the history, so who could read is as that says

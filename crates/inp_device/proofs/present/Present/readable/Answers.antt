@@ -1,5 +1,4 @@
 use Rattle.std.proofs.Common.{length, ap, ◌∙◌}
-use Rattle.inp_model.specs.Reply.{written}
 use Rattle.inp_device.proofs.QueryAnswers.{readable_kept}
 use Rattle.inp_device.proofs.present.Present.readable.Goals as goal
 

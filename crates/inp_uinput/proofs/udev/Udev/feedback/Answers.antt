@@ -5,7 +5,6 @@ use Rattle.std.proofs.lemmas.List.{length-reverse}
 use Rattle.circular_buffer.specs.Buffer.{Buffer, buffer}
 use Rattle.inp_model.specs.declared.event.Event.{Event}
 use Rattle.inp_model.specs.Description.{Description}
-use Rattle.inp_model.specs.Reply.{written}
 use Rattle.inp_feedback.specs.declared.feedback_call.FeedbackCall.{FeedbackCall}
 use Rattle.inp_feedback.specs.declared.fed.TheConstants.{FEEDBACK_MAX}
 use Rattle.inp_feedback.specs.Feedback.{feedback_queue, is_full_of_feedback}

@@ -1,5 +1,4 @@
 use Rattle.std.proofs.Common.{sym, reverse}
-use Rattle.inp_model.specs.Reply.{written}
 use Rattle.inp_feedback.proofs.Lists.{steps_in-kept_of}
 use Rattle.inp_uinput.proofs.udev.Udev.readable.Goals as goal
 
