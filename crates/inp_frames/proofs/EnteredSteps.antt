@@ -1,5 +1,6 @@
 -- What the core stands for behind a step that it made.
 use Rattle.std.proofs.Common.{◌≡◌, ℕ, ◌*◌, Bool, true, false, ◌&&◌, if◌then◌else◌, ℤ, List, [], ◌∷◌}
+use Rattle.std.specs.Prelude.{not, slice_index_or}
 use Rattle.std.proofs.Common.{unsigned_abs, refl, sym, ap, subst, ◌∙◌, map}
 use Rattle.inp_model.specs.declared.event.TheConstants.{REP_PERIOD}
 use Rattle.inp_model.specs.declared.event.Event.{Event}
@@ -252,6 +253,15 @@ tick-fires d past now takes core begun handled new es to_old to_new u m h b e k 
     rw same at k in
     let may : may_repeat core ≡ true = ap may_repeat (sym b) ∙ m in
     rw n (fires_on d past now takes core handled to_old to_new u may h (Handles-from b by_key))
+
+-- a core whose key repeats is not inhibited
+pub awake_repeating : (core : CoreValues) → may_repeat core ≡ true → core.inhibited ≡ false
+awake_repeating core m = awake (slice_index_or core.state.keys core.timer.key false) core.inhibited m
+  where
+    awake : (down inhibited : Bool) → (down && not inhibited) ≡ true → inhibited ≡ false
+    awake true false h = refl
+    awake true true h = absurd (cc h)
+    awake false inhibited h = absurd (cc h)
 
 -- what the core with its timer timer_disarmed stands for
 pub begins : (d : Description) (past : List Step) (core begun : CoreValues) → CoreStandsFor d past core

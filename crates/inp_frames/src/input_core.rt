@@ -86,8 +86,8 @@ impl Core {
         })
     }
 
-    /// Handles a raw event that the driver injects or a client writes, and passes the frame on that it ends, if it ends
-    /// one (the kernel's `input_event`).
+    /// Handles a raw event, and passes the frame on that it ends, if it ends one (the kernel's `input_event`). The driver
+    /// injects the event, a client writes it, or the core makes it itself.
     ///
     /// A report ends the frame, unless it is alone. So does an event that leaves as many events as the hint; a report
     /// with the value 1 is put after it. The moment of the frame is `now`, in microseconds, at most `MOMENT_MAX`. A key
@@ -106,13 +106,26 @@ impl Core {
         ensures sends { (past : List Step) → CoreStandsFor caps.now past self.old
             → sends self.new ≡ (goes_to_device caps.now (raw caps.now past) event
             && not (is_inhibited past)) }
+        ensures handled { self.old.inhibited ≡ false → (r : List RawItem)
+            → StandsAfter caps.now r self.old
+            → Handles caps.now r (event ∷ []) now F.takes self.old self.new to.old to.new }
         ensures made { IsFor caps.now self.new }
     {
         let ignored = self.inhibited;
         if ignored {
             return;
         }
-        self.gather(caps, event, now, to);
+        let (disposition, value) = apply(&mut self.state, &mut self.slots, caps, event);
+        self.goes = disposition.contains(Disposition::TO_DEVICE);
+        let slot = self.slots.announced();
+        self.batch.add(disposition, slot, Event { value, ..event });
+        if !self.batch.cut(event.is_report()) {
+            return;
+        }
+        self.timer = timer_at_frame(self.timer, caps, &self.state, self.batch.events(), now);
+        to.pass(self.batch.events(), now);
+        self.batch.clear();
+        self.slots.frame_passed();
     }
 
     /// Right after [`Core::inject`]: whether its event goes to the device itself too, to its lights, sounds and
@@ -144,7 +157,7 @@ impl Core {
             return;
         }
         let repeat = self.repeat_event();
-        self.gather_two(caps, repeat, core_report(), now, to);
+        self.inject_two(caps, repeat, core_report(), now, to);
         self.rearm(now);
     }
 
@@ -212,31 +225,8 @@ impl Core {
         self.timer
     }
 
-    // Handles a raw event, gathers what is passed for it, and passes the frame on that it ends, if it ends one.
-    fn gather<F: Frames>(&mut self, caps: &Caps, event: Event, now: u64, to: &mut F)
-        requires timely { now ≤ MOMENT_MAX }
-        requires made { IsFor caps.now self.old }
-        ensures handled { (r : List RawItem) → StandsAfter caps.now r self.old
-            → Handles caps.now r (event ∷ []) now F.takes self.old self.new to.old to.new }
-        ensures goes { (r : List RawItem) → StandsAfter caps.now r self.old
-            → self.new.goes ≡ goes_to_device caps.now r event }
-        ensures made { IsFor caps.now self.new }
-    {
-        let (disposition, value) = apply(&mut self.state, &mut self.slots, caps, event);
-        self.goes = disposition.contains(Disposition::TO_DEVICE);
-        let slot = self.slots.announced();
-        self.batch.add(disposition, slot, Event { value, ..event });
-        if !self.batch.cut(event.is_report()) {
-            return;
-        }
-        self.timer = timer_at_frame(self.timer, caps, &self.state, self.batch.events(), now);
-        to.pass(self.batch.events(), now);
-        self.batch.clear();
-        self.slots.frame_passed();
-    }
-
-    // Handles two raw events, one after the other.
-    fn gather_two<F: Frames>(
+    // Handles two raw events, one after the other, of a device that is not inhibited.
+    fn inject_two<F: Frames>(
         &mut self,
         caps: &Caps,
         first: Event,
@@ -246,20 +236,22 @@ impl Core {
     )
         requires timely { now ≤ MOMENT_MAX }
         requires made { IsFor caps.now self.old }
-        ensures handled { (r : List RawItem) → StandsAfter caps.now r self.old
+        ensures handled { self.old.inhibited ≡ false → (r : List RawItem)
+            → StandsAfter caps.now r self.old
             → Handles caps.now r (first ∷ second ∷ []) now F.takes self.old self.new to.old to.new }
         ensures made { IsFor caps.now self.new }
     {
-        self.gather(caps, first, now, to);
-        self.gather(caps, second, now, to);
+        self.inject(caps, first, now, to);
+        self.inject(caps, second, now, to);
     }
 
-    // Lifts all contacts and releases all keys, and ends the frame. Which these are is looked up before the first
-    // event.
+    // Lifts all contacts and releases all keys, and ends the frame, before the device is inhibited. Which these are is
+    // looked up before the first event.
     fn release_all<F: Frames>(&mut self, caps: &Caps, now: u64, to: &mut F)
         requires timely { now ≤ MOMENT_MAX }
         requires made { IsFor caps.now self.old }
-        ensures handled { (r : List RawItem) → StandsAfter caps.now r self.old
+        ensures handled { self.old.inhibited ≡ false → (r : List RawItem)
+            → StandsAfter caps.now r self.old
             → Handles caps.now r (releases caps.now r) now F.takes self.old self.new to.old to.new }
         ensures made { IsFor caps.now self.new }
     {
@@ -267,21 +259,22 @@ impl Core {
         let keys = *self.state.keys();
         self.lift_contacts(caps, &contacts, now, to);
         self.release_keys(caps, &keys, now, to);
-        self.gather(caps, core_report(), now, to);
+        self.inject(caps, core_report(), now, to);
     }
 
     // Lifts the contacts of these slots.
     fn lift_contacts<F: Frames>(&mut self, caps: &Caps, contacts: &Bits<4>, now: u64, to: &mut F)
         requires timely { now ≤ MOMENT_MAX }
         requires made { IsFor caps.now self.old }
-        ensures handled { (r : List RawItem) → StandsAfter caps.now r self.old
+        ensures handled { self.old.inhibited ≡ false → (r : List RawItem)
+            → StandsAfter caps.now r self.old
             → Handles caps.now r (flat_map lift_events (true_indices contacts.now)) now F.takes
             self.old self.new to.old to.new }
         ensures made { IsFor caps.now self.new }
         ensures len { length contacts.now ≡ 256 }
     {
         for slot in contacts.ones() {
-            self.gather_two(caps, slot_event(slot), lift_event(), now, to);
+            self.inject_two(caps, slot_event(slot), lift_event(), now, to);
         }
     }
 
@@ -289,14 +282,15 @@ impl Core {
     fn release_keys<F: Frames>(&mut self, caps: &Caps, keys: &Bits<12>, now: u64, to: &mut F)
         requires timely { now ≤ MOMENT_MAX }
         requires made { IsFor caps.now self.old }
-        ensures handled { (r : List RawItem) → StandsAfter caps.now r self.old
+        ensures handled { self.old.inhibited ≡ false → (r : List RawItem)
+            → StandsAfter caps.now r self.old
             → Handles caps.now r (flat_map release_events (true_indices keys.now)) now F.takes
             self.old self.new to.old to.new }
         ensures made { IsFor caps.now self.new }
         ensures len { length keys.now ≡ 768 }
     {
         for key in keys.ones() {
-            self.gather(caps, key_release(key as u16), now, to);
+            self.inject(caps, key_release(key as u16), now, to);
         }
     }
 

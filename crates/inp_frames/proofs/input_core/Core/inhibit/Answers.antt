@@ -1,4 +1,4 @@
-use Rattle.std.proofs.Common.{true, List, sym, ◌∙◌}
+use Rattle.std.proofs.Common.{List, sym, ◌∙◌}
 use Rattle.inp_model.specs.declared.event.Event.{Event}
 use Rattle.inp_model.specs.Raw.{raw, releases}
 use Rattle.inp_frames.proofs.EnteredSteps.{enters-inhibit, stays-inhibited}
@@ -16,4 +16,5 @@ returns-then-not-self-clause-enters g c = λ past h.
     (enters-inhibit c.args.caps.now past c.args.now all g.F.Frames.takes c.args.self.now
     c.release_all.new.self c.args.to.now c.release_all.new.to h
     (simp (← c.self.view_is, c.if-not-self.true))
-    (c.release_all.ensures.handled (raw c.args.caps.now past) h.raw_events))
+    (c.release_all.ensures.handled (sym (rw (← c.self.view_is)) ∙ c.if-not-self.true)
+    (raw c.args.caps.now past) h.raw_events))

@@ -1,6 +1,5 @@
 use Rattle.std.proofs.Common.{[], ◌∷◌, ◌∙◌, map}
 use Rattle.inp_model.specs.RawItem.{Occurred}
-use Rattle.inp_model.specs.Event.{slot_event}
 use Rattle.std.specs.Prelude.{flat_map}
 use Rattle.inp_model.specs.Cut.{raw_after}
 use Rattle.inp_bits.specs.Bits.{true_indices}
@@ -14,7 +13,8 @@ loop-slot-init g c = record {
   whole = c.into_iter-slot-iterator.ensures.into_iter_gives ∙ c.ones-slot-items.ensures.value;
   within = rw c.into_iter-slot-iterator.ensures.into_iter_gives c.ones-slot-items.ensures.within;
   made = c.requires.made;
-  handled = λ r h. Handles-none c.args.caps.now r c.args.now g.F.Frames.takes c.args.self.now c.args.to.now h;
+  handled = λ awake r h.
+      Handles-none c.args.caps.now r c.args.now g.F.Frames.takes c.args.self.now c.args.to.now h;
 }
 
 pub loop-slot-preserved : goal.loop-slot-preserved
@@ -25,14 +25,14 @@ loop-slot-preserved g c = record {
   within =
       below-rest 256 c.in-Some.slot c.loop-slot.slot-iterator c.next.new.self c.in-Some.ensures.steps
       c.loop-slot.invariant.within;
-  made = c.gather_two.ensures.made;
-  handled = λ r h.
-      let before = c.loop-slot.invariant.handled r h in
+  made = c.inject_two.ensures.made;
+  handled = λ awake r h.
+      let before = c.loop-slot.invariant.handled awake r h in
       let more =
       Handles-append c.args.caps.now r (flat_map lift_events c.loop-slot.yielded)
       (c.slot_event.result ∷ c.lift_event.result ∷ []) c.args.now g.F.Frames.takes c.args.self.now
-      c.loop-slot.self c.gather_two.new.self c.args.to.now c.loop-slot.to c.gather_two.new.to before
-      (c.gather_two.ensures.handled
+      c.loop-slot.self c.inject_two.new.self c.args.to.now c.loop-slot.to c.inject_two.new.to before
+      (c.inject_two.ensures.handled (before.inhibited ∙ awake)
       (raw_after r (map Occurred (flat_map lift_events c.loop-slot.yielded))) before.stands_after) in
       rw (
         c.slot_event.ensures,

@@ -13,7 +13,8 @@ loop-key-init g c = record {
   whole = c.into_iter-key-iterator.ensures.into_iter_gives ∙ c.ones-key-items.ensures.value;
   within = rw c.into_iter-key-iterator.ensures.into_iter_gives c.ones-key-items.ensures.within;
   made = c.requires.made;
-  handled = λ r h. Handles-none c.args.caps.now r c.args.now g.F.Frames.takes c.args.self.now c.args.to.now h;
+  handled = λ awake r h.
+      Handles-none c.args.caps.now r c.args.now g.F.Frames.takes c.args.self.now c.args.to.now h;
 }
 
 pub loop-key-preserved : goal.loop-key-preserved
@@ -24,14 +25,15 @@ loop-key-preserved g c = record {
   within =
       below-rest 768 c.in-Some.key c.loop-key.key-iterator c.next.new.self c.in-Some.ensures.steps
       c.loop-key.invariant.within;
-  made = c.gather.ensures.made;
-  handled = λ r h.
-      let before = c.loop-key.invariant.handled r h in
+  made = c.inject.ensures.made;
+  handled = λ awake r h.
+      let before = c.loop-key.invariant.handled awake r h in
       let more =
       Handles-append c.args.caps.now r (flat_map release_events c.loop-key.yielded)
       (c.key_release.result ∷ []) c.args.now g.F.Frames.takes c.args.self.now c.loop-key.self
-      c.gather.new.self c.args.to.now c.loop-key.to c.gather.new.to before
-      (c.gather.ensures.handled (raw_after r (map Occurred (flat_map release_events c.loop-key.yielded)))
+      c.inject.new.self c.args.to.now c.loop-key.to c.inject.new.to before
+      (c.inject.ensures.handled (before.inhibited ∙ awake)
+      (raw_after r (map Occurred (flat_map release_events c.loop-key.yielded)))
       before.stands_after) in
       rw (c.key_release.ensures, flat_map-more release_events c.loop-key.yielded c.in-Some.key) at
       more;

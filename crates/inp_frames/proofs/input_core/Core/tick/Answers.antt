@@ -1,6 +1,6 @@
 use Rattle.std.proofs.Common.{[], ◌∷◌, sym, ◌∙◌}
 use Rattle.inp_model.specs.Raw.{raw}
-use Rattle.inp_frames.proofs.EnteredSteps.{tick-waits, tick-disarms, tick-fires, begins}
+use Rattle.inp_frames.proofs.EnteredSteps.{tick-waits, tick-disarms, tick-fires, begins, awake_repeating}
 use Rattle.inp_frames.proofs.input_core.Core.tick.Goals as goal
 
 pub returns-then-not-is_due-clause-enters : goal.returns-then-not-is_due-clause-enters
@@ -18,11 +18,13 @@ returns-then-not-may_repeat-clause-enters g c = λ past h.
 pub returns-clause-enters : goal.returns-clause-enters
 returns-clause-enters g c = λ past h.
     tick-fires c.args.caps.now past c.args.now g.F.Frames.takes c.args.self.now c.disarm.new.self
-    c.gather_two.new.self c.rearm.new.self
-    (c.repeat_event-repeat.result ∷ c.core_report.result ∷ []) c.args.to.now c.gather_two.new.to
+    c.inject_two.new.self c.rearm.new.self
+    (c.repeat_event-repeat.result ∷ c.core_report.result ∷ []) c.args.to.now c.inject_two.new.to
     (sym c.is_due.ensures ∙ c.if-not-is_due.false) (sym c.may_repeat.ensures
     ∙ c.if-not-may_repeat.false) h c.disarm.ensures
     (rw (c.repeat_event-repeat.ensures, c.core_report.ensures))
-    (c.gather_two.ensures.handled (raw c.args.caps.now past)
+    (c.inject_two.ensures.handled
+    (awake_repeating c.disarm.new.self (sym c.may_repeat.ensures ∙ c.if-not-may_repeat.false))
+    (raw c.args.caps.now past)
     (begins c.args.caps.now past c.args.self.now c.disarm.new.self h c.disarm.ensures))
     c.rearm.ensures.timer_rearmed
