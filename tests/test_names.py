@@ -259,14 +259,13 @@ NAMED = {definitions_of_pages: 400, lemmas_of_pages: 8, lemmas_of_crates: 30, fi
 # A row of the definitions: its name, the word or how many words stand before, for whom, and what its words
 # are.
 TERM = r"(\((?:[^()]|\([^()]*\))*\)|\[\]|\w+)\s"
-COMMAND_ROW = re.compile(rf'^command_row stream role (\w+) =\s+verb_line \(codes "(\w+)"\) (\w+) {TERM}',
-                         re.M)
+COMMAND_ROW = re.compile(rf'command_line \(codes "(\w+)"\) \((.*?) role\) {TERM}')
 LINE_ROW = re.compile(rf'^line_row \w+ =\s+item_line \(codes "(\w+)"\) (\d) {TERM}', re.M)
 FIELDS = re.compile(r"^(\w+) = (.* ∷ \[\])$", re.M)
-GROUPS = {"Sources": "source", "Openers": "client, tap, joy", "Callers": "client, tap", "Taps": "tap",
-          "Clients": "client", "Owners": "owner"}
+GROUPS = {"is_source": "source", "is_reading": "client, tap, joy", "is_calling": "client, tap", "is_tap": "tap",
+          "is_client": "client", "is_owner": "owner"}
 # A command that a page has in a row for each role.
-APART = {"Takers": ("tap", "joy")}
+APART = {"is_tap role || is_joy": ("tap", "joy")}
 FORMS = {"any_moment": "MOMENT", "Kind": "TYPE", "Code": "CODE", "CodeOf": "CODE", "Signed": "SIGNED",
          "count": "NUMBER", "Number": "NUMBER", "Positive": "NUMBER", "Bits": "NUMBER", "Clock": "CLOCK",
          "Name": "NAME", "File": "FILE"}
@@ -281,10 +280,10 @@ def forms(term, lists):
     return [FORMS.get(name, name) for name in names if name != "[]"]
 
 
-def command_rows(verbs, fields):
+def command_rows(actions, fields):
     """The commands of the definitions, as a page has them, each with the actors that have it."""
-    lists = dict(FIELDS.findall(fields) + FIELDS.findall(verbs))
-    for _, word, group, term in COMMAND_ROW.findall(verbs):
+    lists = dict(FIELDS.findall(fields) + FIELDS.findall(actions))
+    for word, group, term in COMMAND_ROW.findall(actions):
         for role in APART.get(group, (GROUPS.get(group),)):
             yield " ".join([word, *forms(term, lists)]), role
 
@@ -417,11 +416,11 @@ class Tables(unittest.TestCase):
 
     def setUp(self):
         specs = CRATES / "inp_record" / "specs"
-        self.read = {name: (specs / f"{name}.antt").read_text() for name in ("Verb", "Line", "Field")}
+        self.read = {name: (specs / f"{name}.antt").read_text() for name in ("Action", "Line", "Field")}
         self.page = (DOCS / "FORMATS.md").read_text()
 
     def test_commands(self):
-        rows = set(command_rows(self.read["Verb"], self.read["Field"]))
+        rows = set(command_rows(self.read["Action"], self.read["Field"]))
         said = {(command, of) for commands, of, *_ in table(self.page, "Command")
                 for command in re.findall("`([^`]+)`", commands)}
         self.assertEqual((said, 30), (rows, len(rows)))

@@ -12,8 +12,8 @@ use Rattle.inp_texts.proofs.Computation.{words_computing}
 use Rattle.inp_record.specs.Keyword.{keyword_rows, filter_rows, keyword_of, has_words}
 use Rattle.inp_record.specs.Field.{clock_rows, other_clock_rows}
 use Rattle.inp_record.specs.Line.{line_row}
-use Rattle.inp_record.specs.Verb.{command_row, verb_rows, verb_of}
-use Rattle.inp_record.specs.Words.{plain_item, command_of, actor_from, item_of}
+use Rattle.inp_record.specs.Action.{command_rows}
+use Rattle.inp_record.specs.Words.{plain_item, actor_from, item_of}
 use Rattle.inp_record.specs.Meaning.{item_of_words, behind_line, behind_lines, meaning}
 
 unfoldable pub text_computing : Type 0
@@ -23,7 +23,7 @@ unfolding digits event_codes kind_text code_text bits_text clock_text role_text 
 text_computing = Unit {0}
 
 unfoldable pub record_computing : Type 0
-unfolding words_computing keyword_rows has_words filter_rows keyword_of command_row verb_rows verb_of
-    clock_rows other_clock_rows line_row plain_item command_of actor_from item_of item_of_words behind_line
+unfolding words_computing keyword_rows has_words filter_rows keyword_of command_rows clock_rows
+    other_clock_rows line_row plain_item actor_from item_of item_of_words behind_line
     behind_lines meaning
 record_computing = Unit {0}

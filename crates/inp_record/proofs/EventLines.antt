@@ -8,11 +8,11 @@ use Rattle.inp_record.specs.declared.keyword.Keyword as keyword
 use Rattle.inp_record.specs.declared.verb.Verb as verb
 use Rattle.inp_record.specs.declared.verb.Verb.TheVariants as verbs
 use Rattle.inp_record.specs.Place.{is_first_place}
-use Rattle.inp_record.specs.Verb.{command_row, verb_of}
-use Rattle.inp_record.specs.Words.{word, actor_from, action_of, command_of, item_of}
+use Rattle.inp_record.specs.Verb.{command_row, verb_of, command_of}
+use Rattle.inp_record.specs.Words.{word, actor_from, action_of, item_of}
 use Rattle.inp_record.specs.Meaning.{item_of_words}
 use Rattle.inp_record.proofs.Keywords.{do_begins_action}
-use Rattle.inp_record.proofs.Rows.{verb_read, same_stream}
+use Rattle.inp_record.proofs.Rows.{verb_read, same_stream, action_by_verb}
 
 event_verb : (ws : List (List ℕ)) → length ws ≡ 7 → bytes_eq (word 2 ws) (codes "event") ≡ true
     → verb_of roles.Source (word 2 ws) (length ws - 3) ≡ Some verbs.Event
@@ -32,6 +32,7 @@ event_line c ws source first count does event actor =
       first,
       do_begins_action c.version (word 0 ws) (word 1 ws) (length ws) does (omega (arith, count)),
       actor,
+      action_by_verb,
       event_verb,
       same_stream,
     )

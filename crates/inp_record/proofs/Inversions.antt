@@ -2,6 +2,7 @@
 use Rattle.std.proofs.Common.{◌≡◌, ◌≤◌, ◌<◌, ℕ, suc, ◌∷◌, ◌⊎◌, inl, inr, true, false, ◌&&◌, not, List, length}
 use Rattle.std.proofs.Common.{Option, Some, None, ◌+◌, ◌-◌, Result, Ok, Err, refl, sym, ◌∙◌, arith}
 use Rattle.std.specs.List.{range_with_len}
+use Rattle.std.specs.Prelude.{ok_or}
 use Rattle.std.proofs.lemmas.Bool.{not-false}
 use Rattle.inp_caps.specs.declared.caps_refused.CapsRefused.{CapsRefused}
 use Rattle.inp_caps.specs.declared.caps_refused.CapsRefused.TheVariants.{BadSlots}
@@ -11,8 +12,8 @@ use Rattle.inp_actors.specs.declared.command.Command as command
 use Rattle.inp_actors.specs.declared.actor_text.ActorText.{ActorText}
 use Rattle.inp_actors.specs.Command.{is_command_of, is_in_range, stream_of}
 use Rattle.inp_record.specs.declared.cause.Cause.{Cause}
-use Rattle.inp_record.specs.declared.cause.Cause.TheVariants.{NotText, BadHeader, OutOfPlace, BadCommand}
-use Rattle.inp_record.specs.declared.cause.Cause.TheVariants.{Twice, TooMany, Caps}
+use Rattle.inp_record.specs.declared.cause.Cause.TheVariants.{NotText, BadHeader, OutOfPlace}
+use Rattle.inp_record.specs.declared.cause.Cause.TheVariants.{BadCommand, BadWord, Twice, TooMany, Caps}
 use Rattle.inp_record.specs.declared.context.Context.{Context}
 use Rattle.inp_record.specs.declared.keyword.Keyword as keyword
 use Rattle.inp_record.specs.declared.verb.Verb as verb
@@ -20,9 +21,9 @@ use Rattle.inp_record.specs.declared.item.Item as item
 use Rattle.inp_record.specs.declared.item.Item.TheVariants as items
 use Rattle.inp_record.specs.Keyword.{keyword_of}
 use Rattle.inp_record.specs.Place.{is_first_place, is_out_of_place}
-use Rattle.inp_record.specs.Verb.{command_row, is_verb_of, argument_count, verb_of}
-use Rattle.inp_record.specs.Words.{word, is_header, is_action, command_of, actor_from, action_of, action_by}
-use Rattle.inp_record.specs.Words.{action_with, action_item, plain_item, or_bad_word, item_of}
+use Rattle.inp_record.specs.Verb.{command_row, is_verb_of, argument_count, verb_of, command_of}
+use Rattle.inp_record.specs.Words.{word, is_header, is_action, actor_from, action_of}
+use Rattle.inp_record.specs.Words.{action_with, action_item, plain_item, item_of}
 use Rattle.inp_record.specs.ItemsBefore.{ItemsBefore, streams_in}
 use Rattle.inp_record.specs.Meaning.{is_later_command, is_twice, is_too_many, has_too_many_slots}
 use Rattle.inp_record.specs.Meaning.{builder_refusal, unless_refused, checked, placed, item_of_words}
@@ -30,6 +31,7 @@ use Rattle.inp_record.specs.Meaning.{behind_words, behind_line, then_lines, behi
 use Rattle.inp_record.proofs.Fields.{made_fits}
 use Rattle.inp_record.proofs.Options.{unrefused, chosen}
 use Rattle.inp_record.proofs.Rows.{IsOfRow, row_count, row_read, row_role, row_range, row_stream}
+use Rattle.inp_record.proofs.Rows.{action_with_verb, action_by_verb}
 
 -- a line that is read is said once, is not one too many and describes what a device can have
 pub record IsChecked (c : Context) (means : Result item.Item Cause) (i : item.Item) : Type 0 where
@@ -148,7 +150,8 @@ pub act_is : (actors : List ActorText) (s : ℕ) (ws : List (List ℕ)) (i : ite
 act_is actors s ws i e = by_actor (actor_from 0 actors (word 1 ws)) refl e
   where
     by_verb : (a : ℕ × role.Role) → actor_from 0 actors (word 1 ws) ≡ Some a → (o : Option verb.Verb)
-        → verb_of a.1 (word 2 ws) (length ws - 3) ≡ o → action_by s a o ws ≡ Ok i → IsAct actors s ws i
+        → verb_of a.1 (word 2 ws) (length ws - 3) ≡ o → action_with_verb s a.0 a.1 o ws ≡ Ok i
+        → IsAct actors s ws i
     by_verb a h None g e = absurd (cc e)
     by_verb a h (Some v) g e = let k =
         action_of_is a.0 (command_of s a.1 v ws) i e in
@@ -157,10 +160,11 @@ act_is actors s ws i e = by_actor (actor_from 0 actors (word 1 ws)) refl e
     by_actor : (o : Option (ℕ × role.Role)) → actor_from 0 actors (word 1 ws) ≡ o → action_with s o ws ≡ Ok i
         → IsAct actors s ws i
     by_actor None h e = absurd (cc e)
-    by_actor (Some a) h e = by_verb a h (verb_of a.1 (word 2 ws) (length ws - 3)) refl e
+    by_actor (Some a) h e =
+        by_verb a h (verb_of a.1 (word 2 ws) (length ws - 3)) refl (sym (action_by_verb s a.0 a.1 ws) ∙ e)
 
 -- words that mean no item are refused
-pub or_bad_is : (o : Option item.Item) (i : item.Item) → or_bad_word o ≡ Ok i → o ≡ Some i
+pub or_bad_is : (o : Option item.Item) (i : item.Item) → ok_or o BadWord ≡ Ok i → o ≡ Some i
 or_bad_is None i e = absurd (cc e)
 or_bad_is (Some j) i e = cc e
 

@@ -1,6 +1,7 @@
 -- Fields of lines: what a word of a line is, how it is read, and how it is written (docs/FORMATS.md, "Words").
 use Rattle.std.specs.Prelude.{ℕ, suc, ◌-◌, ◌^◌, ℤ, Bool, true, false, if◌then◌else◌, nat_eq, List, [], ◌∷◌, slice_index_or, bytes_eq, codes, decimal, Option, Some, None, option_and_then}
 use Rattle.std.specs.Fmt.{signed_decimal}
+use Rattle.inp_model.specs.declared.axis_info.AxisInfo.{AxisInfo}
 use Rattle.inp_model.specs.declared.clock.Clock as clock
 use Rattle.inp_model.specs.declared.clock.Clock.TheVariants.{Realtime, Monotonic, Boottime}
 use Rattle.inp_model.specs.declared.event.TheConstants.{EV_ABS}
@@ -119,6 +120,11 @@ kind_behind f kind value = kind
 abbrev pub Makes : Type 0 → List Field → Type 0
 Makes A [] = A
 Makes A (f ∷ fs) = ValueOf f → Makes A fs
+
+-- what is made of an axis and its data
+abbrev pub axis_made : {A : Type 0} → (ℕ → AxisInfo → A) → Makes A axis_fields
+axis_made make code value minimum maximum fuzz flat resolution =
+    make code (record { value = value; minimum = minimum; maximum = maximum; fuzz = fuzz; flat = flat; resolution = resolution })
 
 -- what is made of the words from this one on, if each is what its field says
 abbrev pub made : (A : Type 0) (fs : List Field) → ℕ → ℕ → List (List ℕ) → Makes A fs → Option A

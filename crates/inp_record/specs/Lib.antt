@@ -4,6 +4,7 @@ pub mod Fault
 pub mod Keyword
 pub mod Field
 pub mod Line
+pub mod Action
 pub mod Verb
 pub mod Place
 pub mod Words

@@ -8,7 +8,7 @@ use Rattle.inp_record.specs.declared.keyword.Keyword.{Keyword}
 use Rattle.inp_record.specs.declared.keyword.Keyword.TheVariants.{Header, Device, Udevice, Hint, Log, Clock, Slots, Kind, Code, Axis, Filter, Eat, Norepeat, Chord, Bounce, Source, Client, Tap, Joy, Owner, Action}
 use Rattle.inp_record.specs.declared.item.Item as item
 use Rattle.inp_record.specs.declared.item.Item.TheVariants as items
-use Rattle.inp_record.specs.Field.{Field, axis_fields, Makes, made}
+use Rattle.inp_record.specs.Field.{Field, axis_fields, axis_made, Makes, made}
 use Rattle.inp_record.specs.Field as field
 
 pub record LineRow : Type 0 where
@@ -42,9 +42,7 @@ line_row Clock = item_line (codes "clock") 1 (field.OtherClock ∷ field.Number 
 line_row Slots = item_line (codes "slots") 1 (field.count ∷ []) items.Slots
 line_row Kind = item_line (codes "type") 1 (field.Kind ∷ []) items.Kind
 line_row Code = item_line (codes "cap") 1 (field.Kind ∷ field.Code ∷ []) items.Code
-line_row Axis =
-    item_line (codes "axis") 1 axis_fields
-    (λ code value minimum maximum fuzz flat resolution. items.Axis code (record { value = value; minimum = minimum; maximum = maximum; fuzz = fuzz; flat = flat; resolution = resolution }))
+line_row Axis = item_line (codes "axis") 1 axis_fields (axis_made items.Axis)
 line_row Filter = item_line (codes "filter") 1 (field.Never ∷ []) (λ never. absurd never)
 line_row Eat = item_line (codes "eat") 2 (field.Kind ∷ field.Code ∷ []) (λ kind code. items.Filter (filters.Eat kind code))
 line_row Norepeat = item_line (codes "norepeat") 2 [] (items.Filter filters.Norepeat)

@@ -1,5 +1,5 @@
 -- What the words of a line mean (docs/FORMATS.md, "The lines").
-use Rattle.std.specs.Prelude.{ℕ, suc, ◌-◌, Bool, true, false, ◌&&◌, if◌then◌else◌, nat_eq, nat_le, List, [], ◌∷◌, codes, bytes_eq, length, slice_index_or, Option, Some, None, is_some, Result, Ok, Err}
+use Rattle.std.specs.Prelude.{ℕ, suc, ◌-◌, Bool, true, false, ◌&&◌, if◌then◌else◌, nat_eq, nat_le, List, [], ◌∷◌, codes, bytes_eq, length, slice_index_or, Option, Some, None, is_some, option_map, ok_or, Result, Ok, Err}
 use Rattle.inp_model.specs.declared.limits.TheConstants.{BOUNCE_MAX}
 use Rattle.inp_model.specs.declared.filter.Filter as filter
 use Rattle.inp_model.specs.declared.filter.Filter.TheVariants as filters
@@ -10,12 +10,11 @@ use Rattle.inp_record.specs.declared.cause.Cause.{Cause}
 use Rattle.inp_record.specs.declared.cause.Cause.TheVariants.{NoActor, BadCommand, BadWord}
 use Rattle.inp_record.specs.declared.keyword.Keyword as keyword
 use Rattle.inp_record.specs.declared.keyword.Keyword.TheVariants as keywords
-use Rattle.inp_record.specs.declared.verb.Verb as verb
 use Rattle.inp_record.specs.declared.item.Item as item
 use Rattle.inp_record.specs.declared.item.Item.TheVariants as items
 use Rattle.inp_record.specs.Field.{version_word}
 use Rattle.inp_record.specs.Line.{line_row}
-use Rattle.inp_record.specs.Verb.{command_row, verb_of}
+use Rattle.inp_record.specs.Action.{Row, row_of}
 
 abbrev pub word : ℕ → List (List ℕ) → List ℕ
 word i ws = slice_index_or ws i []
@@ -41,34 +40,28 @@ has_micros _ = true
 unfoldable pub plain_item : keyword.Keyword → List (List ℕ) → Option item.Item
 plain_item k ws = (line_row k).read ws
 
--- a command with its words, of an actor of this role, if these have their forms; a stream has this number
-unfoldable pub command_of : ℕ → role.Role → verb.Verb → List (List ℕ) → Option command.Command
-command_of stream role verb ws = (command_row stream role verb).read ws
-
 -- the number of the actor with this name, and its role; the first of them has the number n
 unfoldable pub actor_from : ℕ → List ActorText → List ℕ → Option (ℕ × role.Role)
 actor_from n [] name = None
 actor_from n (actor ∷ actors) name = if bytes_eq actor.name name then Some (n, actor.role) else actor_from (suc n) actors name
 
+-- an action of this actor, if the words of its command have their forms
 abbrev pub action_of : ℕ → Option command.Command → Result item.Item Cause
-action_of actor None = Err BadWord
-action_of actor (Some command) = Ok (items.Action actor command)
+action_of actor command = ok_or (option_map (items.Action actor) command) BadWord
 
-abbrev pub action_by : ℕ → ℕ × role.Role → Option verb.Verb → List (List ℕ) → Result item.Item Cause
-action_by stream actor None ws = Err BadCommand
-action_by stream actor (Some verb) ws = action_of actor.0 (command_of stream actor.1 verb ws)
+-- the meaning of an action line of this actor, by the row of its command
+abbrev pub action_by : ℕ → Option Row → List (List ℕ) → Result item.Item Cause
+action_by actor None ws = Err BadCommand
+action_by actor (Some row) ws =
+    if row.is_allowed && nat_eq (length row.fields) (length ws - 3) then action_of actor (row.read ws) else Err BadCommand
 
 abbrev pub action_with : ℕ → Option (ℕ × role.Role) → List (List ℕ) → Result item.Item Cause
 action_with stream None ws = Err NoActor
-action_with stream (Some actor) ws = action_by stream actor (verb_of actor.1 (word 2 ws) (length ws - 3)) ws
+action_with stream (Some actor) ws = action_by actor.0 (row_of stream actor.1 (word 2 ws)) ws
 
 -- the meaning of an action line, where these actors are there and so many streams
 abbrev pub action_item : List ActorText → ℕ → List (List ℕ) → Result item.Item Cause
 action_item actors stream ws = action_with stream (actor_from 0 actors (word 1 ws)) ws
-
-abbrev pub or_bad_word : Option item.Item → Result item.Item Cause
-or_bad_word None = Err BadWord
-or_bad_word (Some item) = Ok item
 
 abbrev pub is_action : keyword.Keyword → Bool
 is_action keywords.Action = true
@@ -76,4 +69,4 @@ is_action _ = false
 
 -- the meaning of a line with this keyword, by its words
 unfoldable pub item_of : List ActorText → ℕ → keyword.Keyword → List (List ℕ) → Result item.Item Cause
-item_of actors stream k ws = if is_action k then action_item actors stream ws else or_bad_word (plain_item k ws)
+item_of actors stream k ws = if is_action k then action_item actors stream ws else ok_or (plain_item k ws) BadWord

@@ -7,11 +7,12 @@ ghost use Rattle.inp_texts.specs.Line.{AreText, is_text};
 ghost use Rattle.inp_texts.specs.Number.{number};
 ghost use Rattle.inp_record.specs.Fault.{IsReading};
 ghost use Rattle.inp_record.specs.declared.verb.Verb.TheVariants.{Event, Write, Mask, Clock, SetAxis};
+ghost use Rattle.inp_record.specs.Action.{count_max};
 ghost use Rattle.inp_record.specs.Field.{field_word, Positive};
 ghost use Rattle.inp_record.specs.ItemsBefore.{is_later, streams_in};
-ghost use Rattle.inp_record.specs.Verb.{argument_count, count_max, is_stream};
+ghost use Rattle.inp_record.specs.Verb.{argument_count, command_of, is_stream};
 ghost use Rattle.inp_codes.specs.ByNumber.{texts};
-ghost use Rattle.inp_record.specs.Words.{command_of, actor_from, action_item};
+ghost use Rattle.inp_record.specs.Words.{actor_from, action_item};
 
 use crate::Cause;
 use crate::item::Item;
@@ -42,7 +43,7 @@ fn some_word(word: &[u8]) -> Option<u32>
 
 /// An event that a source injects.
 #[inline(always)]
-#[tactic(auto, unfolding(crate::specs::Words::command_of, crate::specs::Verb::command_row))]
+#[tactic(auto, unfolding(crate::specs::Verb::command_of, crate::specs::Verb::command_row))]
 pub(crate) fn event_command(words: &[&[u8]]) -> Option<Command>
     requires { 7 ≤ length words.now }
     ensures command { result ≡ command_of 0 Source Event (texts words.now) }
@@ -62,7 +63,7 @@ pub(crate) fn event_command(words: &[&[u8]]) -> Option<Command>
 }
 
 /// An event that a client writes.
-#[tactic(auto, unfolding(crate::specs::Words::command_of, crate::specs::Verb::command_row))]
+#[tactic(auto, unfolding(crate::specs::Verb::command_of, crate::specs::Verb::command_row))]
 fn write_command(words: &[&[u8]]) -> Option<Command>
     requires { 7 ≤ length words.now }
     ensures { result ≡ command_of 0 Client Write (texts words.now) }
@@ -80,7 +81,7 @@ fn write_command(words: &[&[u8]]) -> Option<Command>
 }
 
 /// A word of a mask: its type, its place and its bits.
-#[tactic(auto, unfolding(crate::specs::Words::command_of, crate::specs::Verb::command_row))]
+#[tactic(auto, unfolding(crate::specs::Verb::command_of, crate::specs::Verb::command_row))]
 fn mask_command(words: &[&[u8]]) -> Option<Command>
     requires { 6 ≤ length words.now }
     ensures { result ≡ command_of 0 Client Mask (texts words.now) }
@@ -96,7 +97,7 @@ fn mask_command(words: &[&[u8]]) -> Option<Command>
 }
 
 /// A clock with the moment of its choice.
-#[tactic(auto, unfolding(crate::specs::Words::command_of, crate::specs::Verb::command_row))]
+#[tactic(auto, unfolding(crate::specs::Verb::command_of, crate::specs::Verb::command_row))]
 fn clock_command(words: &[&[u8]]) -> Option<Command>
     requires { 5 ≤ length words.now }
     ensures { result ≡ command_of 0 Client Clock (texts words.now) }
@@ -107,7 +108,7 @@ fn clock_command(words: &[&[u8]]) -> Option<Command>
 }
 
 /// An axis with what describes it anew.
-#[tactic(auto, unfolding(crate::specs::Words::command_of, crate::specs::Verb::command_row))]
+#[tactic(auto, unfolding(crate::specs::Verb::command_of, crate::specs::Verb::command_row))]
 fn set_axis_command(words: &[&[u8]]) -> Option<Command>
     requires { 10 ≤ length words.now }
     ensures { result ≡ command_of 0 Client SetAxis (texts words.now) }
@@ -142,7 +143,7 @@ fn count_max(role: Role) -> u64
 }
 
 /// A command with its words, other than a stream, of an actor of this role.
-#[tactic(auto, unfolding(crate::specs::Words::command_of, crate::specs::Verb::command_row))]
+#[tactic(auto, unfolding(crate::specs::Verb::command_of, crate::specs::Verb::command_row))]
 fn plain_command(role: Role, verb: Verb, words: &[&[u8]]) -> Option<Command>
     requires count { argument_count verb + 3 ≡ length words.now }
     requires plain { is_stream verb ≡ false }
@@ -216,7 +217,7 @@ fn file_name(alloc: Global, word: &[u8]) -> Result<FileName, NoMemory>
 }
 
 /// A command with its words, of an actor of this role. A stream has this number.
-#[tactic(auto, using(crate::proofs::Rows::same_stream), unfolding(crate::specs::Words::command_of, crate::specs::Verb::command_row))]
+#[tactic(auto, using(crate::proofs::Rows::same_stream), unfolding(crate::specs::Verb::command_of, crate::specs::Verb::command_row))]
 fn command_of(
     alloc: Global,
     index: u32,

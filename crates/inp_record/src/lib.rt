@@ -15,7 +15,7 @@
 //! ran out (`IsParsing`). What came before a line is the list of the items before it, a past. What the line depends on
 //! is a fold over that list, with what each kind of line changes (`specs/ItemsBefore.antt`). The causes stand in
 //! `specs/Meaning.antt` as one chain in their order, and what the words of each line are in `specs/Line.antt` and
-//! `specs/Verb.antt`, a row for each. `specs/Spelling.antt` says what the lines of the canonical text mean. It also
+//! `specs/Action.antt`, a row for each. `specs/Spelling.antt` says what the lines of the canonical text mean. It also
 //! says that the text of each record that some bytes are is read again as that record, which [`print`] promises
 //! (`RoundTrips`). So [`parse`] gives the record of a printed text, or want of memory.
 //!

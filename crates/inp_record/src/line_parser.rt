@@ -6,7 +6,8 @@ ghost use Rattle.inp_record.specs.Fault.{IsReading};
 ghost use Rattle.inp_record.specs.Keyword.{has_words, keyword_of};
 ghost use Rattle.inp_codes.specs.ByNumber.{texts};
 ghost use Rattle.inp_record.specs.declared.verb.Verb.TheVariants as verbs;
-ghost use Rattle.inp_record.specs.Words.{word, action_of, command_of, item_of};
+ghost use Rattle.inp_record.specs.Verb.{command_of};
+ghost use Rattle.inp_record.specs.Words.{word, action_of, item_of};
 ghost use Rattle.inp_record.specs.ItemsBefore.{ItemsBefore, context_of, IsWithinCounts};
 ghost use Rattle.inp_record.specs.Meaning.{item_of_words, behind_words, behind_line, IsBehind};
 

@@ -2,13 +2,13 @@
 ghost use Rattle.std.specs.Prelude.{◌≡◌, IfSome, Some};
 ghost use Rattle.inp_texts.specs.Table.{named, rows_of};
 ghost use Rattle.inp_record.specs.Field.{clock_rows, other_clock_rows};
-ghost use Rattle.inp_record.specs.Verb.{has, verb_rows, with_arguments, verb_of, argument_count};
+ghost use Rattle.inp_record.specs.Verb.{verb_rows, with_arguments, verb_of, is_verb_of, argument_count};
 
 use inp_actors::Role;
 use inp_model::Clock;
 use inp_texts::named;
 
-/// What a word has an actor do.
+/// What a word has an actor do. The commands stand in the order of their rows (`specs/Action.antt`).
 #[derive(Clone, Copy, Debug, PartialEq, Eq)]
 pub(crate) enum Verb {
     Event,
@@ -42,83 +42,88 @@ pub(crate) enum Verb {
     Feedback,
 }
 
-/// The actors that have a command.
-#[derive(Clone, Copy)]
-pub(crate) enum Group {
-    Sources,
-    /// Clients, taps and joysticks.
-    Openers,
-    /// Clients and taps.
-    Callers,
-    /// Taps and joysticks.
-    Takers,
-    Taps,
-    Clients,
-    Owners,
-}
-
-impl Group {
-    /// Whether actors of this role are of the group.
-    fn has(self, role: Role) -> bool
-        ensures { result ≡ has self role }
+impl Verb {
+    /// Whether actors of this role have the command.
+    #[tactic(auto, unfolding(crate::specs::Verb::command_row))]
+    fn is_of(self, role: Role) -> bool
+        ensures { result ≡ is_verb_of role self }
     {
         match self {
-            Group::Sources => role == Role::Source,
-            Group::Openers => matches!(role, Role::Client | Role::Tap | Role::Joy),
-            Group::Callers => matches!(role, Role::Client | Role::Tap),
-            Group::Takers => matches!(role, Role::Tap | Role::Joy),
-            Group::Taps => role == Role::Tap,
-            Group::Clients => role == Role::Client,
-            Group::Owners => role == Role::Owner,
+            Verb::Event | Verb::Tick | Verb::Inhibit => role == Role::Source,
+            Verb::Uninhibit | Verb::Stream | Verb::Stream16 => role == Role::Source,
+            Verb::Open | Verb::Close => matches!(role, Role::Client | Role::Tap | Role::Joy),
+            Verb::Grab | Verb::Ungrab | Verb::Revoke => matches!(role, Role::Client | Role::Tap),
+            Verb::Mask | Verb::Clock => matches!(role, Role::Client | Role::Tap),
+            Verb::Write | Verb::SetAxis => matches!(role, Role::Client | Role::Tap),
+            Verb::Read => matches!(role, Role::Tap | Role::Joy),
+            Verb::Next | Verb::Skip | Verb::Follow | Verb::Force => role == Role::Client,
+            Verb::Feedback => role == Role::Owner,
+            _ => role == Role::Tap,
+        }
+    }
+
+    /// How many words the command is given.
+    #[tactic(auto, unfolding(crate::specs::Verb::command_row))]
+    fn argument_count(self) -> usize
+        ensures { result ≡ argument_count self }
+    {
+        match self {
+            Verb::SetAxis => 7,
+            Verb::Event | Verb::Write => 4,
+            Verb::Mask => 3,
+            Verb::Clock => 2,
+            Verb::Tick | Verb::Inhibit | Verb::Stream | Verb::Stream16 => 1,
+            Verb::Read | Verb::Axis | Verb::Slots => 1,
+            Verb::Next | Verb::Skip | Verb::Feedback => 1,
+            _ => 0,
         }
     }
 }
 
-/// Each word with its command, the actors that have it, and how many words it is given.
+/// Each word with its command.
 #[tactic(auto, unfolding(crate::specs::Verb::verb_rows, crate::specs::Verb::command_row))]
-fn verb_rows() -> &'static [(&'static str, (Verb, Group, usize))]
+fn verb_rows() -> &'static [(&'static str, Verb)]
     ensures { rows_of result.now ≡ verb_rows }
 {
-    static ROWS: [(&str, (Verb, Group, usize)); 29] = [
-        ("event", (Verb::Event, Group::Sources, 4)),
-        ("tick", (Verb::Tick, Group::Sources, 1)),
-        ("inhibit", (Verb::Inhibit, Group::Sources, 1)),
-        ("uninhibit", (Verb::Uninhibit, Group::Sources, 0)),
-        ("stream", (Verb::Stream, Group::Sources, 1)),
-        ("stream16", (Verb::Stream16, Group::Sources, 1)),
-        ("open", (Verb::Open, Group::Openers, 0)),
-        ("close", (Verb::Close, Group::Openers, 0)),
-        ("grab", (Verb::Grab, Group::Callers, 0)),
-        ("ungrab", (Verb::Ungrab, Group::Callers, 0)),
-        ("revoke", (Verb::Revoke, Group::Callers, 0)),
-        ("mask", (Verb::Mask, Group::Callers, 3)),
-        ("clock", (Verb::Clock, Group::Callers, 2)),
-        ("write", (Verb::Write, Group::Callers, 4)),
-        ("setaxis", (Verb::SetAxis, Group::Callers, 7)),
-        ("read", (Verb::Read, Group::Takers, 1)),
-        ("discard", (Verb::Discard, Group::Taps, 0)),
-        ("keys", (Verb::Keys, Group::Taps, 0)),
-        ("switches", (Verb::Switches, Group::Taps, 0)),
-        ("leds", (Verb::Leds, Group::Taps, 0)),
-        ("sounds", (Verb::Sounds, Group::Taps, 0)),
-        ("syncslots", (Verb::SyncSlots, Group::Taps, 0)),
-        ("axis", (Verb::Axis, Group::Taps, 1)),
-        ("slots", (Verb::Slots, Group::Taps, 1)),
-        ("next", (Verb::Next, Group::Clients, 1)),
-        ("skip", (Verb::Skip, Group::Clients, 1)),
-        ("follow", (Verb::Follow, Group::Clients, 0)),
-        ("force", (Verb::Force, Group::Clients, 0)),
-        ("feedback", (Verb::Feedback, Group::Owners, 1)),
+    static ROWS: [(&str, Verb); 29] = [
+        ("event", Verb::Event),
+        ("tick", Verb::Tick),
+        ("inhibit", Verb::Inhibit),
+        ("uninhibit", Verb::Uninhibit),
+        ("stream", Verb::Stream),
+        ("stream16", Verb::Stream16),
+        ("open", Verb::Open),
+        ("close", Verb::Close),
+        ("grab", Verb::Grab),
+        ("ungrab", Verb::Ungrab),
+        ("revoke", Verb::Revoke),
+        ("mask", Verb::Mask),
+        ("clock", Verb::Clock),
+        ("write", Verb::Write),
+        ("setaxis", Verb::SetAxis),
+        ("read", Verb::Read),
+        ("discard", Verb::Discard),
+        ("keys", Verb::Keys),
+        ("switches", Verb::Switches),
+        ("leds", Verb::Leds),
+        ("sounds", Verb::Sounds),
+        ("syncslots", Verb::SyncSlots),
+        ("axis", Verb::Axis),
+        ("slots", Verb::Slots),
+        ("next", Verb::Next),
+        ("skip", Verb::Skip),
+        ("follow", Verb::Follow),
+        ("force", Verb::Force),
+        ("feedback", Verb::Feedback),
     ];
     &ROWS
 }
 
-/// The command of a row, if its actors have this role and it is given so many words.
-fn with_arguments(role: Role, arguments: usize, row: (Verb, Group, usize)) -> Option<Verb>
-    ensures { result ≡ with_arguments role arguments (Some row) }
+/// The command, if actors of this role have it and it is given so many words.
+fn with_arguments(role: Role, arguments: usize, verb: Verb) -> Option<Verb>
+    ensures { result ≡ with_arguments role arguments (Some verb) }
 {
-    let (verb, group, count) = row;
-    if group.has(role) && count == arguments {
+    if verb.is_of(role) && verb.argument_count() == arguments {
         Some(verb)
     } else {
         None
@@ -131,8 +136,8 @@ pub(crate) fn verb_of(role: Role, word: &[u8], arguments: usize) -> Option<Verb>
     ensures verb { result ≡ verb_of role word.now arguments }
     ensures given { IfSome result (λ verb. argument_count verb ≡ arguments) }
 {
-    let row = named(verb_rows(), word)?;
-    with_arguments(role, arguments, row)
+    let verb = named(verb_rows(), word)?;
+    with_arguments(role, arguments, verb)
 }
 
 /// Each word with its clock.
