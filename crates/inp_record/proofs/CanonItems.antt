@@ -1,14 +1,14 @@
 -- Items, written and read again, alone and line by line.
 use Rattle.std.proofs.Common.{◌≡◌, ℕ, Bool, true, false, ◌&&◌, nat_eq, List, [], ◌∷◌, length, codes, decimal}
 use Rattle.std.proofs.Common.{Some, Ok, refl, ◌∙◌, suc, ◌++◌, map, sym}
-use Rattle.std.specs.Prelude.{slice_get}
+use Rattle.std.specs.Prelude.{slice_get, option_map, unwrap_or}
 use Rattle.std.proofs.lemmas.Bool.{not-false}
 use Rattle.inp_model.specs.declared.event.TheConstants.{EV_ABS}
 use Rattle.inp_model.specs.declared.axis_info.AxisInfo.{AxisInfo}
 use Rattle.inp_texts.specs.Texts.{code_text, role_text}
 use Rattle.inp_record.specs.canon.Words.{Words, lines_text}
 use Rattle.inp_record.specs.canon.Device.{fuzz_words, axis_words, filter_words, info_words as info_text}
-use Rattle.inp_record.specs.canon.Text.{device_word, name_of_actor}
+use Rattle.inp_record.specs.canon.Text.{device_word}
 use Rattle.inp_actors.specs.declared.actor_text.ActorText.{ActorText}
 use Rattle.inp_record.specs.declared.item.Item.{Item}
 use Rattle.inp_record.specs.declared.item.Item.TheVariants.{Header, Device, Axis, Filter, Actor, Action}
@@ -97,13 +97,13 @@ item_keyword version actors (Axis code i) p = axis_keyword version code i
 item_keyword version actors (Filter f) p = filter_keyword version f p
 item_keyword version actors (Actor r name) p = role_keyword version r name p
 item_keyword version actors (Action actor does) p =
-    do_keyword (name_of_actor (slice_get actors actor)) version does
+    do_keyword (unwrap_or (option_map (λ a. a.name) (slice_get actors actor)) []) version does
 item_keyword version actors i p = refl
 
 -- what a line that is no action says is read again
 line_item_read : (c : Context) (i : Item) → is_action_item i ≡ false → is_header_item i ≡ false
     → IsAccepted c i → item_of_words c (item_words c.actors i) ≡ Ok i
-unfolding item_of
+unfolding item_of plain_item
 line_item_read c i n h a =
     let none : is_action (keyword_for i) ≡ false = acts i ∙ n in
     placed_read c (keyword_for i) (item_words c.actors i) i (item_keyword c.version c.actors i a.later)

@@ -25,7 +25,8 @@ use Rattle.inp_record.specs.Words.{word, is_header, item_of, plain_item}
 use Rattle.inp_record.specs.Field.{version_word}
 use Rattle.inp_record.specs.Line.{line_row}
 use Rattle.inp_record.specs.ItemsBefore.{ItemsBefore, after, context_of}
-use Rattle.inp_record.specs.Meaning.{checked, placed, item_of_words, behind, behind_words, behind_line}
+use Rattle.std.specs.Result.{result_map_both}
+use Rattle.inp_record.specs.Meaning.{checked, placed, item_of_words, behind_words, behind_line}
 use Rattle.inp_record.specs.Meaning.{behind_lines, record_of_past, as_record, meaning}
 use Rattle.inp_record.proofs.Inversions.{IsPlaced, checked_is, words_are, or_bad_is, line_means, lines_mean}
 use Rattle.inp_record.proofs.Options.{push_get, and_then_is, unrefused}
@@ -138,7 +139,7 @@ module _ (n : ℕ) (past now : ItemsBefore) (h : AreLines n past) where
   stays e = rw (← e) (record { accepted = h.accepted; few = omega (arith, h.few) })
 
   behind_accepted : (means : Result Item Cause) → ((i : Item) → means ≡ Ok i → IsAccepted (context_of past) i)
-      → behind past means ≡ Ok now → AreLines (suc n) now
+      → result_map_both (λ j. j ∷ past) (λ why. why) means ≡ Ok now → AreLines (suc n) now
   behind_accepted (Err cause) p e = absurd (cc e)
   behind_accepted (Ok i) p e =
       let same : i ∷ past ≡ now = cc e in

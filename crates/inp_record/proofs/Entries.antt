@@ -13,7 +13,8 @@ use Rattle.inp_record.specs.declared.context.Context.{Context}
 use Rattle.inp_record.specs.declared.item.Item.{Item}
 use Rattle.inp_record.specs.declared.place.Place.TheVariants.{Describing}
 use Rattle.inp_record.specs.Meaning.{unless_refused, is_later_command, is_twice, is_too_many}
-use Rattle.inp_record.specs.Meaning.{has_too_many_slots, builder_refusal, checked, item_of_words, behind}
+use Rattle.std.specs.Result.{result_map_both}
+use Rattle.inp_record.specs.Meaning.{has_too_many_slots, builder_refusal, checked, item_of_words}
 use Rattle.inp_record.specs.Meaning.{behind_words, IsLineEntered, IsBehind}
 use Rattle.inp_record.specs.declared.cause.Cause.{Cause}
 use Rattle.inp_record.specs.declared.line_fault.LineFault.{LineFault}
@@ -97,7 +98,7 @@ checked_once c means item e l t m w = rw (e, l, t, m, w) refl
 entered : (past : ItemsBefore) (item : Item) (means : Result Item Cause)
     (result : Result (Unit {0}) LineFault)
     (now : Context) → means ≡ unless_refused (builder_refusal (context_of past).builder item) item
-    → IsLineEntered result past item now → IsBehind result (behind past means) now
+    → IsLineEntered result past item now → IsBehind result (result_map_both (λ j. j ∷ past) (λ why. why) means) now
 entered past item means (Ok done) now e h = (item ∷ past, rw (e, h.0) refl, h.1)
 entered past item means (Err (line.Refused cause)) now e h = rw (e, h) refl
 entered past item means (Err line.NoMemory) now e h = tt

@@ -34,7 +34,7 @@ use Rattle.inp_record.specs.Place.{is_describing, is_naming, is_out_of_place}
 use Rattle.inp_record.specs.ItemsBefore.{ItemsBefore, with_latest, devices_of, streams_in, first_context}
 use Rattle.inp_record.specs.ItemsBefore.{after, context_of}
 use Rattle.inp_record.specs.ItemsBefore.{no_given, IsWithinCounts}
-use Rattle.inp_record.specs.Meaning.{device_count, has_all, behind_lines, record_of_past, closed}
+use Rattle.inp_record.specs.Meaning.{has_all, behind_lines, record_of_past, closed}
 use Rattle.inp_record.proofs.CanonPasts.{all_accepted}
 use Rattle.inp_record.proofs.Inversions.{row_fits}
 use Rattle.inp_record.proofs.Options.{push_at, push_get, front_get}
@@ -55,7 +55,7 @@ closed_length devices (Some name) requested d =
 
 -- there is room behind a device that is begun
 pub begun_room : (c : Context) (requested : Bool) (name : List ℕ) → IsWithinCounts c
-    → nat_le DEVICES_MAX (device_count c) ≡ false
+    → nat_le DEVICES_MAX (count_of c.devices c.name) ≡ false
     → IsWithinCounts
     (record (closed c) {
       place = Describing;
@@ -68,7 +68,7 @@ pub begun_room : (c : Context) (requested : Bool) (name : List ℕ) → IsWithin
     })
 begun_room c requested name room h =
     let count = closed_length c.devices c.name c.requested (built c.builder) in
-    let less : device_count c < 8 = grind (arith, nat_tests) in
+    let less : count_of c.devices c.name < 8 = grind (arith, nat_tests) in
     record {
       devices = omega arith;
       sources = omega arith;
@@ -212,7 +212,7 @@ module _ (c : Context) (good : IsGood c) where
     | inr h ↦ h.1 ∙ good.actors.owned_latest i a e o h.0
   ]
 
-  device_begun : (requested : Bool) (name : List ℕ) → nat_le DEVICES_MAX (device_count c) ≡ false
+  device_begun : (requested : Bool) (name : List ℕ) → nat_le DEVICES_MAX (count_of c.devices c.name) ≡ false
       → IsGood (after (Device requested name) c)
   device_begun requested name enough =
       let old = good.actors in

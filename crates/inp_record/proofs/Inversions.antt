@@ -2,7 +2,7 @@
 use Rattle.std.proofs.Common.{◌≡◌, ◌≤◌, ◌<◌, ℕ, suc, ◌∷◌, ◌⊎◌, inl, inr, true, false, ◌&&◌, not, List, length}
 use Rattle.std.proofs.Common.{Option, Some, None, ◌+◌, ◌-◌, Result, Ok, Err, refl, sym, ◌∙◌, arith}
 use Rattle.std.specs.List.{range_with_len}
-use Rattle.std.specs.Prelude.{ok_or}
+use Rattle.std.specs.Prelude.{ok_or, option_map, unwrap_or}
 use Rattle.std.proofs.lemmas.Bool.{not-false}
 use Rattle.inp_caps.specs.declared.caps_refused.CapsRefused.{CapsRefused}
 use Rattle.inp_caps.specs.declared.caps_refused.CapsRefused.TheVariants.{BadSlots}
@@ -13,7 +13,7 @@ use Rattle.inp_actors.specs.declared.actor_text.ActorText.{ActorText}
 use Rattle.inp_actors.specs.Command.{is_command_of, is_in_range, stream_of}
 use Rattle.inp_record.specs.declared.cause.Cause.{Cause}
 use Rattle.inp_record.specs.declared.cause.Cause.TheVariants.{NotText, BadHeader, OutOfPlace}
-use Rattle.inp_record.specs.declared.cause.Cause.TheVariants.{BadCommand, BadWord, Twice, TooMany, Caps}
+use Rattle.inp_record.specs.declared.cause.Cause.TheVariants.{NoActor, BadCommand, BadWord, Twice, TooMany, Caps}
 use Rattle.inp_record.specs.declared.context.Context.{Context}
 use Rattle.inp_record.specs.declared.keyword.Keyword as keyword
 use Rattle.inp_record.specs.declared.verb.Verb as verb
@@ -23,7 +23,8 @@ use Rattle.inp_record.specs.Keyword.{keyword_of}
 use Rattle.inp_record.specs.Place.{is_first_place, is_out_of_place}
 use Rattle.inp_record.specs.Verb.{command_row, is_verb_of, argument_count, verb_of, command_of}
 use Rattle.inp_record.specs.Words.{word, is_header, is_action, actor_from, action_of}
-use Rattle.inp_record.specs.Words.{action_with, action_item, plain_item, item_of}
+use Rattle.inp_record.specs.Words.{action_by, action_item, plain_item, item_of}
+use Rattle.inp_record.specs.Action.{row_of}
 use Rattle.inp_record.specs.ItemsBefore.{ItemsBefore, streams_in}
 use Rattle.inp_record.specs.Meaning.{is_later_command, is_twice, is_too_many, has_too_many_slots}
 use Rattle.inp_record.specs.Meaning.{builder_refusal, unless_refused, checked, placed, item_of_words}
@@ -157,7 +158,8 @@ act_is actors s ws i e = by_actor (actor_from 0 actors (word 1 ws)) refl e
         action_of_is a.0 (command_of s a.1 v ws) i e in
         record { actor = a; first = h; verb = v; named = g; does = k.0; made = k.1; is = sym k.2 }
 
-    by_actor : (o : Option (ℕ × role.Role)) → actor_from 0 actors (word 1 ws) ≡ o → action_with s o ws ≡ Ok i
+    by_actor : (o : Option (ℕ × role.Role)) → actor_from 0 actors (word 1 ws) ≡ o 
+        → unwrap_or (option_map (λ a. action_by a.0 (row_of s a.1 (word 2 ws)) ws) o) (Err NoActor) ≡ Ok i
         → IsAct actors s ws i
     by_actor None h e = absurd (cc e)
     by_actor (Some a) h e =
@@ -173,7 +175,7 @@ pub read_as : (actors : List ActorText) (s : ℕ) (k : keyword.Keyword) (ws : Li
     → item_of actors s k ws ≡ Ok i
     → ((is_action k ≡ true) × (action_item actors s ws ≡ Ok i))
     ⊎ ((is_action k ≡ false) × (plain_item k ws ≡ Some i))
-unfolding item_of
+unfolding item_of plain_item
 read_as actors s k ws i e = elim (chosen (is_action k) _ _ (Ok i) e) [
   | inl h ↦ inl h
   | inr h ↦ inr (h.0, or_bad_is (plain_item k ws) i h.1)

@@ -3,6 +3,7 @@ use Rattle.std.proofs.Common.{◌≡◌, ℕ, Bool, true, false, not, if◌then�
 use Rattle.std.proofs.Common.{[], ◌∷◌, Option, Some, None, unwrap_or, refl, sym, ap, ◌∙◌, ◌≤◌, nat_le, arith}
 use Rattle.std.proofs.Common.{inl, inr}
 use Rattle.std.specs.List.{list_all}
+use Rattle.std.specs.Prelude.{option_and_then}
 use Rattle.std.proofs.lemmas.Slice.Eq.{bytes_eq-Decides}
 use Rattle.std.proofs.lemmas.Bool.{and_parts, both_ways, not-true}
 use Rattle.std.proofs.lemmas.Option.{cond_some}
@@ -11,7 +12,7 @@ use Rattle.inp_record.specs.declared.keyword.Keyword as keyword
 use Rattle.inp_record.specs.declared.keyword.Keyword.TheVariants as keywords
 use Rattle.inp_record.specs.Line.{line_row}
 use Rattle.inp_record.specs.Keyword.{keyword_rows, filter_rows, filter_keyword, keyword_under, has_words}
-use Rattle.inp_record.specs.Keyword.{with_words, keyword_of}
+use Rattle.inp_record.specs.Keyword.{keyword_of}
 use Rattle.inp_record.specs.Words.{is_action}
 use Rattle.inp_record.proofs.Options.{and_then_is, chosen}
 use Rattle.std.proofs.lemmas.Bool.Decides.{nat_tests}
@@ -42,7 +43,7 @@ do_by_tests false false h = refl
 do_by_tests a b h = absurd (cc h)
 
 with_words_is : (count : ℕ) (o : Option keyword.Keyword) (k : keyword.Keyword)
-    → with_words count o ≡ Some k → o ≡ Some k
+    → option_and_then (λ j. if has_words j count then Some j else None) o ≡ Some k → o ≡ Some k
 with_words_is count None k e = absurd (cc e)
 with_words_is count (Some j) k e = rw ((cond_some (has_words j count) j k e).1)
 

@@ -17,7 +17,8 @@ use Rattle.inp_record.specs.declared.item.Item.TheVariants.{Action}
 use Rattle.inp_record.specs.declared.keyword.Keyword as keyword
 use Rattle.inp_record.specs.Words.{word, has_word, is_action, item_of}
 use Rattle.inp_record.specs.ItemsBefore.{ItemsBefore, after, context_of}
-use Rattle.inp_record.specs.Meaning.{checked, item_of_words, behind, behind_words, behind_line, behind_lines}
+use Rattle.std.specs.Result.{result_map_both}
+use Rattle.inp_record.specs.Meaning.{checked, item_of_words, behind_words, behind_line, behind_lines}
 use Rattle.inp_record.specs.Meaning.{record_of_past, as_record, meaning}
 use Rattle.inp_record.specs.LineNumber.{is_action_line, action_numbers}
 use Rattle.inp_record.proofs.Options.{chosen}
@@ -111,7 +112,7 @@ comment_does_nothing (b ∷ line) h = elim (chosen (is_blank b) (is_comment line
 -- a line between two pasts
 module _ (past now : ItemsBefore) where
   behind_adds : (means : Result item.Item Cause) (does : Bool)
-      → ((i : item.Item) → means ≡ Ok i → is_action (keyword_for i) ≡ does) → behind past means ≡ Ok now
+      → ((i : item.Item) → means ≡ Ok i → is_action (keyword_for i) ≡ does) → result_map_both (λ j. j ∷ past) (λ why. why) means ≡ Ok now
       → Adds past now (if does then 1 else 0)
   behind_adds (Err cause) does is e = absurd (cc e)
   behind_adds (Ok i) does is e =

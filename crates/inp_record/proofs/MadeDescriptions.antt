@@ -27,7 +27,8 @@ use Rattle.inp_record.specs.declared.item.Item.TheVariants.{Device, Hint, Log, R
 use Rattle.inp_record.specs.declared.item.Item.TheVariants.{Kind, Code, Axis, Filter}
 use Rattle.inp_record.specs.declared.context.Context.{Context}
 use Rattle.inp_record.specs.ItemsBefore.{after}
-use Rattle.inp_record.specs.Meaning.{refused_by, builder_refusal}
+use Rattle.inp_record.specs.Meaning.{builder_refusal}
+use Rattle.std.specs.Result.{result_err}
 use Rattle.inp_record.proofs.Sayable.{IsSayableInfo, IsAccepted}
 
 -- sixty-four types, none of them unknown, EV_SYN among them
@@ -347,7 +348,7 @@ gathered_numbers g s h l r b =
     }
 
 filter_passes : (good : Bool) (full : Bool)
-    → refused_by (if not good then Err BadCode else if full then Err BadFilter else Ok (tt {0})) ≡ None
+    → result_err (if not good then Err BadCode else if full then Err BadFilter else Ok (tt {0})) ≡ None
     → (good ≡ true) × (full ≡ false)
 filter_passes true false e = (refl, refl)
 filter_passes good full e = absurd (cc e)
@@ -366,7 +367,7 @@ module _ (d : Description) (g : IsGathered d) where
       gathered_axis (with_kind d EV_ABS) (gathered_kind d g EV_ABS refl) code i
       (ltb-false _ _ passed.0) passed.1 said (kind_there d g EV_ABS refl)
 
-  with_filtered : (f : filter.Filter) → refused_by (filter_answer d f) ≡ None → IsGathered (with_filter d f)
+  with_filtered : (f : filter.Filter) → result_err (filter_answer d f) ≡ None → IsGathered (with_filter d f)
   with_filtered f e =
       let passed = filter_passes (is_filter f) (nat_eq (length d.filters) FILTERS_MAX) e in
       let most : length d.filters ≤ FILTERS_MAX = g.filters.few in

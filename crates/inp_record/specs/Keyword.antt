@@ -38,12 +38,8 @@ has_words Filter count = nat_le 2 count
 has_words Action count = nat_le 3 count
 has_words k count = nat_eq count ((line_row k).first + length (line_row k).fields)
 
--- the keyword, if it has so many words
-abbrev pub with_words : ℕ → Option Keyword → Option Keyword
-with_words count None = None
-with_words count (Some keyword) = if has_words keyword count then Some keyword else None
-
 -- the keyword of a line under this version, with these first two words and so many words
 unfoldable pub keyword_of : ℕ → List ℕ → List ℕ → ℕ → Option Keyword
 keyword_of version first second count =
-    with_words count (option_and_then (λ keyword. keyword_under version second keyword) (named keyword_rows first))
+    option_and_then (λ keyword. if has_words keyword count then Some keyword else None)
+    (option_and_then (λ keyword. keyword_under version second keyword) (named keyword_rows first))

@@ -1,5 +1,5 @@
 -- The lines that are no actions (docs/FORMATS.md, "The lines"): for each what its words are and what it says.
-use Rattle.std.specs.Prelude.{ℕ, ◌-◌, ◌^◌, Bool, true, false, List, [], ◌∷◌, codes, Option}
+use Rattle.std.specs.Prelude.{ℕ, ◌-◌, ◌^◌, Bool, true, false, if◌then◌else◌, List, [], ◌∷◌, codes, Option}
 use Rattle.inp_model.specs.declared.event.TheConstants.{EV_KEY}
 use Rattle.inp_model.specs.declared.limits.TheConstants.{BOUNCE_MAX}
 use Rattle.inp_model.specs.declared.filter.Filter.TheVariants as filters
@@ -28,8 +28,7 @@ item_line word first fields make =
 
 -- the offset of a clock other than the monotonic one
 abbrev pub offset_item : Bool → ℕ → item.Item
-offset_item true offset = items.Boottime offset
-offset_item false offset = items.Realtime offset
+offset_item boot offset = if boot then items.Boottime offset else items.Realtime offset
 
 -- each line that is no action
 unfoldable pub line_row : Keyword → LineRow

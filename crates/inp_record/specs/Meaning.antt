@@ -1,6 +1,7 @@
 -- What bytes mean as a record, and else which line is refused and why (docs/FORMATS.md, "Causes").
-use Rattle.std.specs.Prelude.{◌≡◌, ℕ, suc, ◌+◌, Bool, false, ◌&&◌, ◌||◌, not, if◌then◌else◌, nat_eq, nat_le, nat_lt, is_some, bytes_eq, List, [], ◌∷◌, length, replicate, Option, Some, None, Result, Ok, Err}
+use Rattle.std.specs.Prelude.{◌≡◌, ℕ, suc, ◌+◌, Bool, false, ◌&&◌, ◌||◌, not, if◌then◌else◌, nat_eq, nat_le, nat_lt, is_some, bytes_eq, List, [], ◌∷◌, length, replicate, Option, Some, None, option_map, unwrap_or, Result, Ok, Err}
 use Rattle.std.specs.List.{list_any}
+use Rattle.std.specs.Result.{result_err, result_map_both}
 use Rattle.inp_model.specs.declared.event.TheConstants.{ABS_MAX}
 use Rattle.inp_model.specs.declared.limits.TheConstants.{SLOTS_MAX, HINT_MIN, HINT_MAX, LOG_MAX}
 use Rattle.inp_model.specs.declared.stamped.TheConstants.{MOMENT_MAX}
@@ -29,14 +30,10 @@ use Rattle.inp_record.specs.Place.{is_first_place, is_out_of_place}
 use Rattle.inp_record.specs.Words.{word, is_header, item_of}
 use Rattle.inp_record.specs.ItemsBefore.{ItemsBefore, streams_in, is_later, devices_of, context_of}
 
--- the text is there and is this one
-abbrev pub is_text_of : List ℕ → Option (List ℕ) → Bool
-is_text_of name None = false
-is_text_of name (Some text) = bytes_eq text name
-
 -- a device has this name
 abbrev pub has_device : Context → List ℕ → Bool
-has_device c name = is_text_of name c.name || list_any (λ d. bytes_eq d.name name) c.devices
+has_device c name =
+    unwrap_or (option_map (λ latest. bytes_eq latest name) c.name) false || list_any (λ d. bytes_eq d.name name) c.devices
 
 -- A hint, a log limit, a number of slots, an offset or an axis that its device gave before. Or the name of a
 -- device or of an actor that another one has.
@@ -51,10 +48,6 @@ is_twice c (Axis code info) = list_any (λ given. nat_eq given code) c.given.axe
 is_twice c (Actor role name) = list_any (λ a. bytes_eq a.name name) c.actors
 is_twice c _ = false
 
--- how many devices there are
-abbrev pub device_count : Context → ℕ
-device_count c = length c.devices + (if is_some c.name then 1 else 0)
-
 -- the latest device can have no other actor of this role
 abbrev pub has_all : Context → Role → Bool
 has_all c role =
@@ -65,7 +58,7 @@ has_all c role =
 -- A ninth device, a ninth source of a device, a second owner of a device, a seventeenth stream. Or a client,
 -- tap or joystick of a device that has 128 of them together.
 abbrev pub is_too_many : Context → Item → Bool
-is_too_many c (Device requested name) = nat_le DEVICES_MAX (device_count c)
+is_too_many c (Device requested name) = nat_le DEVICES_MAX (length c.devices + (if is_some c.name then 1 else 0))
 is_too_many c (Actor role name) = has_all c role
 is_too_many c (Action actor command) = nat_lt STREAMS_MAX (c.streams + streams_in command)
 is_too_many c _ = false
@@ -80,11 +73,6 @@ abbrev pub has_too_many_slots : Context → Item → Bool
 has_too_many_slots c (Slots count) = nat_eq c.version 1 && nat_lt SLOTS_OF_VERSION_1 count
 has_too_many_slots c _ = false
 
--- why a builder's call was refused, if it was
-abbrev pub refused_by : Result (Unit {0}) CapsRefused → Option CapsRefused
-refused_by (Ok done) = None
-refused_by (Err why) = Some why
-
 -- why this description can not have what a line says too
 abbrev pub builder_refusal : Description → Item → Option CapsRefused
 builder_refusal d (Hint count) = if nat_le HINT_MIN count && nat_le count HINT_MAX then None else Some BadHint
@@ -96,7 +84,7 @@ builder_refusal d (Kind kind) = if is_kind kind then None else Some BadCode
 builder_refusal d (Code kind code) = if is_code kind code then None else Some BadCode
 builder_refusal d (Axis code info) =
     if nat_lt ABS_MAX code then Some BadCode else if is_bad_axis code info then Some BadAxis else None
-builder_refusal d (Filter filter) = refused_by (filter_answer d filter)
+builder_refusal d (Filter filter) = result_err (filter_answer d filter)
 builder_refusal d _ = None
 
 -- the item, unless a description refuses it
@@ -132,15 +120,12 @@ item_of_words c ws =
     if is_first_place c.place && not (is_header ws) then Err BadHeader
     else placed c (keyword_of c.version (word 0 ws) (word 1 ws) (length ws)) ws
 
--- the past after a line of this meaning
-abbrev pub behind : ItemsBefore → Result Item Cause → Result ItemsBefore Cause
-behind past (Err cause) = Err cause
-behind past (Ok item) = Ok (item ∷ past)
-
 -- the past after a line of these words; a blank line means nothing
 abbrev pub behind_words : ItemsBefore → List (List ℕ) → Result ItemsBefore Cause
 behind_words past [] = Ok past
-behind_words past (w ∷ ws) = behind past (checked (context_of past) (item_of_words (context_of past) (w ∷ ws)))
+behind_words past (w ∷ ws) =
+    result_map_both (λ item. item ∷ past) (λ cause. cause)
+    (checked (context_of past) (item_of_words (context_of past) (w ∷ ws)))
 
 -- the past after a line; a comment means nothing
 unfoldable pub behind_line : ItemsBefore → List ℕ → Result ItemsBefore Cause
@@ -174,19 +159,19 @@ record_of_context c = record {
   streams = replicate c.streams [];
 }
 
--- the record of a past
-abbrev pub record_of_past : ItemsBefore → RecordView
-record_of_past past = record_of_context (context_of past)
-
 -- the record of what so many lines mean; without a header the last one is refused
 abbrev pub as_record : ℕ → Result ItemsBefore Refused → Result RecordView Refused
 as_record count (Err refused) = Err refused
 as_record count (Ok []) = Err (record { line = count; cause = BadHeader })
-as_record count (Ok (item ∷ past)) = Ok (record_of_past (item ∷ past))
+as_record count (Ok (item ∷ past)) = Ok (record_of_context (context_of (item ∷ past)))
 
 -- the record that bytes are, or the first line that has no meaning
 unfoldable pub meaning : List ℕ → Result RecordView Refused
 meaning bytes = as_record (length (text_lines bytes)) (behind_lines 1 (text_lines bytes) [])
+
+-- the record of a past
+abbrev pub record_of_past : ItemsBefore → RecordView
+record_of_past past = record_of_context (context_of past)
 
 -- what a line leaves, where it is entered into what was before it, unless memory ran out
 abbrev pub IsLineEntered : Result (Unit {0}) LineFault → ItemsBefore → Item → Context → Type 0

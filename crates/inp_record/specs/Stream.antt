@@ -1,6 +1,6 @@
 -- The streams of a record (docs/FORMATS.md, "Event streams").
 use Rattle.std.specs.Prelude.{◌≡◌, ℕ, zero, suc, ◌/◌, nat_eq, if◌then◌else◌, List, [], ◌∷◌, length, drop, slice_get, slice_set, Option, Some, None, option_map, option_and_then, Result, Ok, Err}
-use Rattle.inp_model.specs.declared.event.Event.{Event}
+use Rattle.std.specs.Result.{result_ok}
 use Rattle.inp_model.specs.declared.stamped.Stamped.{Stamped}
 use Rattle.inp_actors.specs.declared.command.Command.{Command}
 use Rattle.inp_actors.specs.declared.command.Command.TheVariants.{Stream16}
@@ -10,22 +10,18 @@ use Rattle.inp_actors.specs.Record.{RecordView}
 use Rattle.inp_stream.specs.declared.record_form.RecordForm.{RecordForm}
 use Rattle.inp_stream.specs.declared.record_form.RecordForm.TheVariants.{Wide, Narrow}
 use Rattle.inp_stream.specs.Form.{time_len}
-use Rattle.inp_stream.specs.declared.stream_refused.StreamRefused.{StreamRefused}
 use Rattle.inp_stream.specs.Stream.{record_len, decoded}
 use Rattle.inp_record.specs.declared.refused.LoadFault.{LoadFault}
 use Rattle.inp_record.specs.declared.refused.LoadFault.TheVariants as fault
-
--- an event and its moment in front of more, if it was read
-abbrev pub stamped_before : Option (List Stamped) → Result (Event × ℕ) StreamRefused → Option (List Stamped)
-stamped_before more (Ok read) = option_map (λ stamps. record { event = read.0; now = read.1 } ∷ stamps) more
-stamped_before more (Err why) = None
 
 -- the events that so many records are, if each has a time and nothing stands after them; the seconds of a
 -- record, and its microseconds, have this number of bytes
 unfoldable pub stamps_from : ℕ → ℕ → List ℕ → Option (List Stamped)
 stamps_from time_len zero bytes = if nat_eq (length bytes) 0 then Some [] else None
 stamps_from time_len (suc count) bytes =
-    stamped_before (stamps_from time_len count (drop (record_len time_len) bytes)) (decoded time_len bytes)
+    option_and_then
+    (λ read. option_map (λ stamps. record { event = read.0; now = read.1 } ∷ stamps) (stamps_from time_len count (drop (record_len time_len) bytes)))
+    (result_ok (decoded time_len bytes))
 
 -- the events that bytes are, if they are whole records that each have a time
 abbrev pub stamps_of : ℕ → List ℕ → Option (List Stamped)

@@ -1,5 +1,5 @@
 -- What the words of a line mean (docs/FORMATS.md, "The lines").
-use Rattle.std.specs.Prelude.{ℕ, suc, ◌-◌, Bool, true, false, ◌&&◌, if◌then◌else◌, nat_eq, nat_le, List, [], ◌∷◌, codes, bytes_eq, length, slice_index_or, Option, Some, None, is_some, option_map, ok_or, Result, Ok, Err}
+use Rattle.std.specs.Prelude.{ℕ, suc, ◌-◌, Bool, true, false, ◌&&◌, if◌then◌else◌, nat_eq, nat_le, List, [], ◌∷◌, codes, bytes_eq, length, slice_index_or, Option, Some, None, is_some, option_map, unwrap_or, ok_or, Result, Ok, Err}
 use Rattle.inp_model.specs.declared.limits.TheConstants.{BOUNCE_MAX}
 use Rattle.inp_model.specs.declared.filter.Filter as filter
 use Rattle.inp_model.specs.declared.filter.Filter.TheVariants as filters
@@ -55,13 +55,11 @@ action_by actor None ws = Err BadCommand
 action_by actor (Some row) ws =
     if row.is_allowed && nat_eq (length row.fields) (length ws - 3) then action_of actor (row.read ws) else Err BadCommand
 
-abbrev pub action_with : ℕ → Option (ℕ × role.Role) → List (List ℕ) → Result item.Item Cause
-action_with stream None ws = Err NoActor
-action_with stream (Some actor) ws = action_by actor.0 (row_of stream actor.1 (word 2 ws)) ws
-
 -- the meaning of an action line, where these actors are there and so many streams
 abbrev pub action_item : List ActorText → ℕ → List (List ℕ) → Result item.Item Cause
-action_item actors stream ws = action_with stream (actor_from 0 actors (word 1 ws)) ws
+action_item actors stream ws =
+    unwrap_or (option_map (λ actor. action_by actor.0 (row_of stream actor.1 (word 2 ws)) ws) (actor_from 0 actors (word 1 ws)))
+    (Err NoActor)
 
 abbrev pub is_action : keyword.Keyword → Bool
 is_action keywords.Action = true
@@ -69,4 +67,4 @@ is_action _ = false
 
 -- the meaning of a line with this keyword, by its words
 unfoldable pub item_of : List ActorText → ℕ → keyword.Keyword → List (List ℕ) → Result item.Item Cause
-item_of actors stream k ws = if is_action k then action_item actors stream ws else ok_or (plain_item k ws) BadWord
+item_of actors stream k ws = if is_action k then action_item actors stream ws else ok_or ((line_row k).read ws) BadWord

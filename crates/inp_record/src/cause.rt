@@ -1,7 +1,8 @@
 //! Why a line has no meaning.
 
 ghost use Rattle.std.specs.Prelude.{◌≡◌};
-ghost use Rattle.inp_record.specs.Cause.{cause_text, caps_refused_text};
+ghost use Rattle.inp_record.specs.Cause.{cause_text};
+ghost use Rattle.inp_record.specs.declared.cause.Cause.TheVariants.{Caps};
 
 use inp_caps::CapsRefused;
 use std::error::Error;
@@ -58,7 +59,7 @@ impl Cause {
 
 /// Why a description was refused, as it is printed.
 fn caps_refused_text(why: CapsRefused) -> &'static str
-    ensures { result.now ≡ caps_refused_text why }
+    ensures { result.now ≡ cause_text (Caps why) }
 {
     match why {
         CapsRefused::BadCode => "bad-code",

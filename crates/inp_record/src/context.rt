@@ -1,10 +1,10 @@
 //! What the lines of a record depend on: the lines before them.
-ghost use Rattle.std.specs.Prelude.{◌≡◌, ◌+◌, ◌<◌, ◌≤◌, [], ◌∷◌, length, true, false, replicate, IfOk, OnOk};
+ghost use Rattle.std.specs.Prelude.{◌≡◌, ◌+◌, ◌<◌, ◌≤◌, [], ◌∷◌, length, true, false, if◌then◌else◌, is_some, option_map, unwrap_or, replicate, IfOk, OnOk};
 ghost use Rattle.std.specs.List.{list_any};
 ghost use Rattle.std.specs.Str.{bytes_eq};
 ghost use Rattle.inp_actors.specs.Record.{IsRecord};
 ghost use Rattle.inp_record.specs.ItemsBefore.{ItemsBefore, context_of, no_given, IsWithinCounts, streams_in, is_later};
-ghost use Rattle.inp_record.specs.Meaning.{is_twice, is_too_many, is_later_command, has_too_many_slots, is_text_of, has_device, has_all, device_count, IsLineEntered, closed, record_of_context};
+ghost use Rattle.inp_record.specs.Meaning.{is_twice, is_too_many, is_later_command, has_too_many_slots, has_device, has_all, IsLineEntered, closed, record_of_context};
 ghost use Rattle.inp_caps.specs.Builder.{with_filter, filter_answer};
 ghost use Rattle.inp_record.specs.Words.{has_micros};
 ghost use Rattle.inp_record.specs.declared.item.Item.TheVariants as items;
@@ -407,7 +407,7 @@ impl Context {
     /// How many devices there are.
     fn device_count(&self) -> usize
         requires { IsWithinCounts self.now }
-        ensures { result ≡ device_count self.now }
+        ensures { result ≡ length self.now.devices + (if is_some self.now.name then 1 else 0) }
     {
         self.devices.len() + usize::from(self.name.is_some())
     }
@@ -501,7 +501,7 @@ fn empty_streams(alloc: Global, count: u32) -> Result<Streams, NoMemory>
 
 /// Whether there is a name and it is this one.
 fn is_named(name: &Option<Name>, wanted: &[u8]) -> bool
-    ensures { result ≡ is_text_of wanted.now name.now }
+    ensures { result ≡ unwrap_or (option_map (λ name. bytes_eq name wanted.now) name.now) false }
 {
     match name {
         Some(name) => name.bytes() == wanted,

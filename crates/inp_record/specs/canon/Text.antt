@@ -1,5 +1,5 @@
 -- The text of a record (docs/FORMATS.md, "The text of a record").
-use Rattle.std.specs.Prelude.{ℕ, Bool, true, false, if◌then◌else◌, nat_eq, List, [], ◌∷◌, ◌++◌, codes, decimal, flat_map, map, slice_get, Option, Some, None}
+use Rattle.std.specs.Prelude.{ℕ, Bool, if◌then◌else◌, nat_eq, List, [], ◌∷◌, ◌++◌, codes, decimal, flat_map, map, slice_get, option_map, unwrap_or}
 use Rattle.std.specs.List.{enumerate_from}
 use Rattle.inp_actors.specs.declared.device_text.DeviceText.{DeviceText}
 use Rattle.inp_actors.specs.declared.actor_text.ActorText.{ActorText}
@@ -21,8 +21,7 @@ actors_lines actors device = flat_map (actor_lines device) actors
 
 -- the first word of a device's line: whether it is made by requests
 abbrev pub device_word : Bool → List ℕ
-device_word true = codes "udevice"
-device_word false = codes "device"
+device_word requested = if requested then codes "udevice" else codes "device"
 
 -- the line that begins a device
 abbrev pub device_words : DeviceText → Words
@@ -37,15 +36,10 @@ device_lines actors d =
 unfoldable pub devices_lines : List ActorText → List DeviceText → List Words
 devices_lines actors devices = flat_map (device_lines actors) (enumerate_from 0 devices)
 
--- the name of an actor that is there
-abbrev pub name_of_actor : Option ActorText → List ℕ
-name_of_actor (Some actor) = actor.name
-name_of_actor None = []
-
 -- what an actor does
 abbrev pub action_words : List ActorText → Line → Words
 action_words actors line =
-    codes "do" ∷ name_of_actor (slice_get actors line.actor) ∷ command_words line.command
+    codes "do" ∷ unwrap_or (option_map (λ actor. actor.name) (slice_get actors line.actor)) [] ∷ command_words line.command
 
 -- all lines: the header, the devices, the actions
 unfoldable pub record_lines : RecordView → List Words
