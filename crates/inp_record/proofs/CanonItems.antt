@@ -36,6 +36,7 @@ use Rattle.inp_record.proofs.CanonLines.{line_read, empty_read}
 use Rattle.inp_record.proofs.PlainLines.{IsPlainLine, ArePlainLines, line_of, lines_cut}
 use Rattle.inp_record.proofs.WordsAgain.{is_plain-name}
 use Rattle.inp_record.proofs.Fields.{version_read}
+use Rattle.inp_record.proofs.Inversions.{item_of_plain}
 use Rattle.inp_record.proofs.Lines.{of_line, plain_read, plain_line}
 use Rattle.inp_record.proofs.Entries.{checked_once}
 use Rattle.inp_record.proofs.Rows.{do_words, do_keyword, command_read, command_plain}
@@ -103,12 +104,14 @@ item_keyword version actors i p = refl
 -- what a line that is no action says is read again
 line_item_read : (c : Context) (i : Item) → is_action_item i ≡ false → is_header_item i ≡ false
     → IsAccepted c i → item_of_words c (item_words c.actors i) ≡ Ok i
-unfolding item_of plain_item
 line_item_read c i n h a =
     let none : is_action (keyword_for i) ≡ false = acts i ∙ n in
     placed_read c (keyword_for i) (item_words c.actors i) i (item_keyword c.version c.actors i a.later)
     (a.headed h) a.in_place
-    (rw (none, plain_read c.actors i (of_line c.actors c.streams i none a.sayable)))
+    (rw (
+      item_of_plain c.actors c.streams (keyword_for i) (item_words c.actors i) none,
+      plain_read c.actors i (of_line c.actors c.streams i none a.sayable),
+    ) refl)
 
 -- an item that is accepted is read again
 pub item_read : (c : Context) (i : Item) → IsAccepted c i → item_of_words c (item_words c.actors i) ≡ Ok i

@@ -98,7 +98,8 @@ checked_once c means item e l t m w = rw (e, l, t, m, w) refl
 entered : (past : ItemsBefore) (item : Item) (means : Result Item Cause)
     (result : Result (Unit {0}) LineFault)
     (now : Context) → means ≡ unless_refused (builder_refusal (context_of past).builder item) item
-    → IsLineEntered result past item now → IsBehind result (result_map_both (λ j. j ∷ past) (λ why. why) means) now
+    → IsLineEntered result past item now
+    → IsBehind result (result_map_both (λ j. j ∷ past) (λ why. why) means) now
 entered past item means (Ok done) now e h = (item ∷ past, rw (e, h.0) refl, h.1)
 entered past item means (Err (line.Refused cause)) now e h = rw (e, h) refl
 entered past item means (Err line.NoMemory) now e h = tt

@@ -1,11 +1,8 @@
 -- The line by which a source injects an event.
 use Rattle.std.proofs.Common.{◌≡◌, ℕ, ◌-◌, false, true, List, bytes_eq, codes, length, Some, refl, arith}
 use Rattle.std.proofs.lemmas.Slice.Eq.{bytes_eq-Decides}
-use Rattle.inp_actors.specs.declared.role.Role as role
 use Rattle.inp_actors.specs.declared.role.Role.TheVariants as roles
 use Rattle.inp_record.specs.declared.context.Context.{Context}
-use Rattle.inp_record.specs.declared.keyword.Keyword as keyword
-use Rattle.inp_record.specs.declared.verb.Verb as verb
 use Rattle.inp_record.specs.declared.verb.Verb.TheVariants as verbs
 use Rattle.inp_record.specs.Place.{is_first_place}
 use Rattle.inp_record.specs.Verb.{command_row, verb_of, command_of}

@@ -1,5 +1,6 @@
 -- What it takes for a line to have a meaning.
-use Rattle.std.proofs.Common.{◌≡◌, ◌≤◌, ◌<◌, ℕ, suc, ◌∷◌, ◌⊎◌, inl, inr, true, false, ◌&&◌, not, List, length}
+use Rattle.std.proofs.Common.{◌≡◌, ◌≤◌, ◌<◌, ℕ, suc, ◌∷◌, ◌⊎◌, inl, inr, Bool, true, false, ◌&&◌, not, List}
+use Rattle.std.proofs.Common.{length}
 use Rattle.std.proofs.Common.{Option, Some, None, ◌+◌, ◌-◌, Result, Ok, Err, refl, sym, ◌∙◌, arith}
 use Rattle.std.specs.List.{range_with_len}
 use Rattle.std.specs.Prelude.{ok_or, option_map, unwrap_or}
@@ -13,9 +14,11 @@ use Rattle.inp_actors.specs.declared.actor_text.ActorText.{ActorText}
 use Rattle.inp_actors.specs.Command.{is_command_of, is_in_range, stream_of}
 use Rattle.inp_record.specs.declared.cause.Cause.{Cause}
 use Rattle.inp_record.specs.declared.cause.Cause.TheVariants.{NotText, BadHeader, OutOfPlace}
-use Rattle.inp_record.specs.declared.cause.Cause.TheVariants.{NoActor, BadCommand, BadWord, Twice, TooMany, Caps}
+use Rattle.inp_record.specs.declared.cause.Cause.TheVariants.{NoActor, BadCommand, BadWord, Twice}
+use Rattle.inp_record.specs.declared.cause.Cause.TheVariants.{TooMany, Caps}
 use Rattle.inp_record.specs.declared.context.Context.{Context}
 use Rattle.inp_record.specs.declared.keyword.Keyword as keyword
+use Rattle.inp_record.specs.declared.keyword.Keyword.TheVariants as keywords
 use Rattle.inp_record.specs.declared.verb.Verb as verb
 use Rattle.inp_record.specs.declared.item.Item as item
 use Rattle.inp_record.specs.declared.item.Item.TheVariants as items
@@ -158,7 +161,7 @@ act_is actors s ws i e = by_actor (actor_from 0 actors (word 1 ws)) refl e
         action_of_is a.0 (command_of s a.1 v ws) i e in
         record { actor = a; first = h; verb = v; named = g; does = k.0; made = k.1; is = sym k.2 }
 
-    by_actor : (o : Option (ℕ × role.Role)) → actor_from 0 actors (word 1 ws) ≡ o 
+    by_actor : (o : Option (ℕ × role.Role)) → actor_from 0 actors (word 1 ws) ≡ o
         → unwrap_or (option_map (λ a. action_by a.0 (row_of s a.1 (word 2 ws)) ws) o) (Err NoActor) ≡ Ok i
         → IsAct actors s ws i
     by_actor None h e = absurd (cc e)
@@ -170,16 +173,32 @@ pub or_bad_is : (o : Option item.Item) (i : item.Item) → ok_or o BadWord ≡ O
 or_bad_is None i e = absurd (cc e)
 or_bad_is (Some j) i e = cc e
 
+-- what a line means is an action exactly where its keyword is that of one
+pub item_of_action : (actors : List ActorText) (s : ℕ) (k : keyword.Keyword) (ws : List (List ℕ))
+    → is_action k ≡ true → item_of actors s k ws ≡ action_item actors s ws
+unfolding item_of
+item_of_action actors s keywords.Action ws h = refl
+item_of_action actors s k ws h = absurd (cc h)
+
+pub item_of_plain : (actors : List ActorText) (s : ℕ) (k : keyword.Keyword) (ws : List (List ℕ))
+    → is_action k ≡ false → item_of actors s k ws ≡ ok_or (plain_item k ws) BadWord
+unfolding item_of plain_item
+item_of_plain actors s keywords.Action ws h = absurd (cc h)
+item_of_plain actors s k ws h = refl
+
 -- what a line means is an action, or a plain item
 pub read_as : (actors : List ActorText) (s : ℕ) (k : keyword.Keyword) (ws : List (List ℕ)) (i : item.Item)
     → item_of actors s k ws ≡ Ok i
     → ((is_action k ≡ true) × (action_item actors s ws ≡ Ok i))
     ⊎ ((is_action k ≡ false) × (plain_item k ws ≡ Some i))
-unfolding item_of plain_item
-read_as actors s k ws i e = elim (chosen (is_action k) _ _ (Ok i) e) [
-  | inl h ↦ inl h
-  | inr h ↦ inr (h.0, or_bad_is (plain_item k ws) i h.1)
+read_as actors s k ws i e = elim (known (is_action k)) [
+  | inl h ↦ inl (h, sym (item_of_action actors s k ws h) ∙ e)
+  | inr h ↦ inr (h, or_bad_is (plain_item k ws) i (sym (item_of_plain actors s k ws h) ∙ e))
 ]
+  where
+    known : (b : Bool) → (b ≡ true) ⊎ (b ≡ false)
+    known true = inl refl
+    known false = inr refl
 
 -- a line that was read is a comment, or words
 pub line_means : (past now : ItemsBefore) (line : List ℕ) → behind_line past line ≡ Ok now

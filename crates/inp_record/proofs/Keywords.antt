@@ -11,7 +11,7 @@ use Rattle.inp_texts.specs.Table.{named}
 use Rattle.inp_record.specs.declared.keyword.Keyword as keyword
 use Rattle.inp_record.specs.declared.keyword.Keyword.TheVariants as keywords
 use Rattle.inp_record.specs.Line.{line_row}
-use Rattle.inp_record.specs.Keyword.{keyword_rows, filter_rows, filter_keyword, keyword_under, has_words}
+use Rattle.inp_record.specs.Keyword.{keyword_rows, filter_rows, keyword_under, has_words}
 use Rattle.inp_record.specs.Keyword.{keyword_of}
 use Rattle.inp_record.specs.Words.{is_action}
 use Rattle.inp_record.proofs.Options.{and_then_is, chosen}
@@ -55,7 +55,8 @@ kinds_do_nothing : list_all is_no_action filter_rows ≡ true
 unfolding filter_rows line_row
 kinds_do_nothing = refl
 
-kind_does_nothing : (second : List ℕ) → is_action (filter_keyword second) ≡ false
+kind_does_nothing : (second : List ℕ)
+    → is_action (unwrap_or (named filter_rows second) keywords.Filter) ≡ false
 kind_does_nothing second = by_kind (named filter_rows second) refl
   where
     by_kind : (o : Option keyword.Keyword) → named filter_rows second ≡ o

@@ -112,7 +112,8 @@ comment_does_nothing (b ∷ line) h = elim (chosen (is_blank b) (is_comment line
 -- a line between two pasts
 module _ (past now : ItemsBefore) where
   behind_adds : (means : Result item.Item Cause) (does : Bool)
-      → ((i : item.Item) → means ≡ Ok i → is_action (keyword_for i) ≡ does) → result_map_both (λ j. j ∷ past) (λ why. why) means ≡ Ok now
+      → ((i : item.Item) → means ≡ Ok i → is_action (keyword_for i) ≡ does)
+      → result_map_both (λ j. j ∷ past) (λ why. why) means ≡ Ok now
       → Adds past now (if does then 1 else 0)
   behind_adds (Err cause) does is e = absurd (cc e)
   behind_adds (Ok i) does is e =

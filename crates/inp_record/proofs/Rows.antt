@@ -1,5 +1,5 @@
 -- Commands as rows of their table, written and read again.
-use Rattle.std.proofs.Common.{inl, inr, ◌≡◌, ℕ, ◌≤◌, true, List, ◌∷◌, length, Some, refl, arith, false, ◌&&◌}
+use Rattle.std.proofs.Common.{◌≡◌, ℕ, ◌≤◌, true, List, ◌∷◌, length, Some, refl, arith, false, ◌&&◌}
 use Rattle.std.proofs.Common.{nat_eq, [], map, Option, None, bytes_eq, IfSome, sym, ◌-◌, codes, Ok, ap, ◌∙◌}
 use Rattle.std.specs.List.{list_all, range_with_len, find}
 use Rattle.std.specs.Prelude.{option_map}
@@ -179,7 +179,7 @@ found_among stream r w (v ∷ vs) =
     by_test : (b : Bool) → find (λ row. bytes_eq row.word w) (map (command_row stream r) vs)
         ≡ option_map (command_row stream r) (named (map verb_row vs) w)
         → cond b (Some (command_row stream r v))
-            (find (λ row. bytes_eq row.word w) (map (command_row stream r) vs))
+        (find (λ row. bytes_eq row.word w) (map (command_row stream r) vs))
         ≡ option_map (command_row stream r) (if b then Some v else named (map verb_row vs) w)
     by_test true more = refl
     by_test false more = more
@@ -217,7 +217,8 @@ action_by_verb stream actor r ws = rw row_found (by_verb (named verb_rows (word 
 -- what an action line of this actor means
 pub action_is : (actors : List ActorText) (stream actor : ℕ) (r : role.Role) (ws : List (List ℕ))
     → actor_from 0 actors (word 1 ws) ≡ Some (actor, r)
-    → action_item actors stream ws ≡ action_with_verb stream actor r (verb_of r (word 2 ws) (length ws - 3)) ws
+    → action_item actors stream ws
+    ≡ action_with_verb stream actor r (verb_of r (word 2 ws) (length ws - 3)) ws
 action_is actors stream actor r ws first = rw first (action_by_verb stream actor r ws)
 
 -- a command of a row, written and read again

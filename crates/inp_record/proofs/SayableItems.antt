@@ -2,7 +2,6 @@
 use Rattle.std.proofs.Common.{◌≡◌, ◌<◌, ◌+◌, ◌-◌, ℕ, suc, Bool, true, List, [], ◌∷◌, length, Some, bytes_eq}
 use Rattle.std.proofs.Common.{Ok, refl, ap, arith, ◌⊎◌, inl, inr}
 use Rattle.std.specs.Prelude.{slice_get}
-use Rattle.inp_actors.specs.declared.command.Command as command
 use Rattle.std.specs.List.{list_all, slice_split}
 use Rattle.std.proofs.lemmas.Bool.Decides.{nat_tests}
 use Rattle.std.proofs.lemmas.List.Elements.{filter_passes}
@@ -16,7 +15,6 @@ use Rattle.inp_actors.specs.declared.actor_text.ActorText.{ActorText}
 use Rattle.inp_actors.specs.Name.{is_name}
 use Rattle.inp_texts.specs.Line.{is_blank, is_text, is_text_byte, is_word, words_of}
 use Rattle.inp_record.specs.declared.keyword.Keyword as keyword
-use Rattle.inp_record.specs.declared.verb.Verb as verb
 use Rattle.inp_record.specs.declared.item.Item as item
 use Rattle.inp_record.specs.declared.item.Item.TheVariants as items
 use Rattle.inp_record.specs.Words.{word, has_micros, actor_from, action_item, item_of}

@@ -18,15 +18,11 @@ keyword_rows =
 unfoldable pub filter_rows : List (List ℕ × Keyword)
 filter_rows = map keyword_row (Eat ∷ Norepeat ∷ Chord ∷ Bounce ∷ [])
 
--- the keyword of a filter line with this second word
-abbrev pub filter_keyword : List ℕ → Keyword
-filter_keyword second = unwrap_or (named filter_rows second) Filter
-
 -- The keyword of a line whose first word names this one. Under version 1 there is no filter line, no device
 -- made by requests, no joystick and no owner. Under a later one the second word of a filter line says what
 -- kind of filter it is.
 abbrev pub keyword_under : ℕ → List ℕ → Keyword → Option Keyword
-keyword_under version second Filter = if nat_eq version 1 then None else Some (filter_keyword second)
+keyword_under version second Filter = if nat_eq version 1 then None else Some (unwrap_or (named filter_rows second) Filter)
 keyword_under version second Udevice = if nat_eq version 1 then None else Some Udevice
 keyword_under version second Joy = if nat_eq version 1 then None else Some Joy
 keyword_under version second Owner = if nat_eq version 1 then None else Some Owner

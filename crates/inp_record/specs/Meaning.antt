@@ -30,15 +30,11 @@ use Rattle.inp_record.specs.Place.{is_first_place, is_out_of_place}
 use Rattle.inp_record.specs.Words.{word, is_header, item_of}
 use Rattle.inp_record.specs.ItemsBefore.{ItemsBefore, streams_in, is_later, devices_of, context_of}
 
--- a device has this name
-abbrev pub has_device : Context → List ℕ → Bool
-has_device c name =
-    unwrap_or (option_map (λ latest. bytes_eq latest name) c.name) false || list_any (λ d. bytes_eq d.name name) c.devices
-
 -- A hint, a log limit, a number of slots, an offset or an axis that its device gave before. Or the name of a
 -- device or of an actor that another one has.
 abbrev pub is_twice : Context → Item → Bool
-is_twice c (Device requested name) = has_device c name
+is_twice c (Device requested name) =
+    unwrap_or (option_map (λ latest. bytes_eq latest name) c.name) false || list_any (λ d. bytes_eq d.name name) c.devices
 is_twice c (Hint count) = c.given.hint
 is_twice c (Log count) = c.given.log
 is_twice c (Realtime offset) = is_some c.given.realtime

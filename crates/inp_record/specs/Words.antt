@@ -1,5 +1,5 @@
 -- What the words of a line mean (docs/FORMATS.md, "The lines").
-use Rattle.std.specs.Prelude.{ℕ, suc, ◌-◌, Bool, true, false, ◌&&◌, if◌then◌else◌, nat_eq, nat_le, List, [], ◌∷◌, codes, bytes_eq, length, slice_index_or, Option, Some, None, is_some, option_map, unwrap_or, ok_or, Result, Ok, Err}
+use Rattle.std.specs.Prelude.{ℕ, suc, ◌-◌, Bool, true, false, ◌&&◌, if◌then◌else◌, nat_eq, nat_le, List, [], ◌∷◌, codes, bytes_eq, length, slice_index_or, Option, Some, None, is_some, option_map, unwrap_or, ok_or, Result, Err}
 use Rattle.inp_model.specs.declared.limits.TheConstants.{BOUNCE_MAX}
 use Rattle.inp_model.specs.declared.filter.Filter as filter
 use Rattle.inp_model.specs.declared.filter.Filter.TheVariants as filters
@@ -67,4 +67,5 @@ is_action _ = false
 
 -- the meaning of a line with this keyword, by its words
 unfoldable pub item_of : List ActorText → ℕ → keyword.Keyword → List (List ℕ) → Result item.Item Cause
-item_of actors stream k ws = if is_action k then action_item actors stream ws else ok_or ((line_row k).read ws) BadWord
+item_of actors stream keywords.Action ws = action_item actors stream ws
+item_of actors stream k ws = ok_or ((line_row k).read ws) BadWord

@@ -4,7 +4,7 @@ ghost use Rattle.std.specs.List.{list_any};
 ghost use Rattle.std.specs.Str.{bytes_eq};
 ghost use Rattle.inp_actors.specs.Record.{IsRecord};
 ghost use Rattle.inp_record.specs.ItemsBefore.{ItemsBefore, context_of, no_given, IsWithinCounts, streams_in, is_later};
-ghost use Rattle.inp_record.specs.Meaning.{is_twice, is_too_many, is_later_command, has_too_many_slots, has_device, has_all, IsLineEntered, closed, record_of_context};
+ghost use Rattle.inp_record.specs.Meaning.{is_twice, is_too_many, is_later_command, has_too_many_slots, has_all, IsLineEntered, closed, record_of_context};
 ghost use Rattle.inp_caps.specs.Builder.{with_filter, filter_answer};
 ghost use Rattle.inp_record.specs.Words.{has_micros};
 ghost use Rattle.inp_record.specs.declared.item.Item.TheVariants as items;
@@ -387,7 +387,7 @@ impl Context {
 
     /// Whether a device has this name.
     fn has_device(&self, name: &[u8]) -> bool
-        ensures { result ≡ has_device self.now name.now }
+        ensures { result ≡ is_twice self.now (items.Device false name.now) }
     {
         is_named(&self.name, name) || is_among_devices(self.devices.as_slice(), name)
     }

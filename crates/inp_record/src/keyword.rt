@@ -1,7 +1,8 @@
 //! The words that say what a line is.
-ghost use Rattle.std.specs.Prelude.{◌≡◌, true, IfSome};
-ghost use Rattle.inp_texts.specs.Table.{rows_of};
-ghost use Rattle.inp_record.specs.Keyword.{keyword_rows, filter_rows, filter_keyword, keyword_under, has_words, keyword_of};
+ghost use Rattle.std.specs.Prelude.{◌≡◌, true, unwrap_or, IfSome};
+ghost use Rattle.inp_texts.specs.Table.{named, rows_of};
+ghost use Rattle.inp_record.specs.declared.keyword.Keyword.TheVariants.{Filter};
+ghost use Rattle.inp_record.specs.Keyword.{keyword_rows, filter_rows, keyword_under, has_words, keyword_of};
 
 use inp_texts::named;
 
@@ -75,7 +76,7 @@ fn filter_rows() -> &'static [(&'static str, Keyword)]
 
 /// The keyword of a filter line with this second word.
 fn filter_keyword(second: &[u8]) -> Keyword
-    ensures { result ≡ filter_keyword second.now }
+    ensures { result ≡ unwrap_or (named filter_rows second.now) Filter }
 {
     match named(filter_rows(), second) {
         Some(keyword) => keyword,

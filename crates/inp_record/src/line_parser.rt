@@ -25,7 +25,7 @@ use inp_texts::{is_comment, text_words};
 use std::alloc::Global;
 
 /// The meaning of a line with this keyword, by its words.
-#[tactic(auto, unfolding(crate::specs::Words::item_of, crate::specs::Words::plain_item, crate::specs::Keyword::has_words))]
+#[tactic(auto, using(crate::proofs::Inversions::item_of_action, crate::proofs::Inversions::item_of_plain), unfolding(crate::specs::Keyword::has_words))]
 fn item_of(
     alloc: Global,
     actors: &[ActorText],

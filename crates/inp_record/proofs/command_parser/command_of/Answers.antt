@@ -1,6 +1,6 @@
-use Rattle.std.proofs.Common.{rules, arith, ◌≡◌, false}
+use Rattle.std.proofs.Common.{rules, ◌≡◌, false}
 use Rattle.inp_codes.specs.ByNumber.{texts}
-use Rattle.inp_record.specs.Verb.{command_of, is_stream}
+use Rattle.inp_record.specs.Verb.{is_stream}
 use Rattle.inp_record.proofs.Rows.{same_stream}
 use Rattle.inp_record.proofs.command_parser.command_of.Goals as goal
 

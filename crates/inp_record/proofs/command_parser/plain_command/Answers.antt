@@ -1,4 +1,4 @@
-use Rattle.std.proofs.Common.{rules, ◌≡◌}
+use Rattle.std.proofs.Common.{rules}
 use Rattle.inp_record.specs.Verb.{command_of, command_row}
 use Rattle.inp_record.proofs.command_parser.plain_command.Goals as goal
 
