@@ -32,9 +32,6 @@ command_line word is_allowed fields make =
 abbrev pub event_fields : List Field
 event_fields = field.any_moment ∷ field.Kind ∷ field.Code ∷ field.Signed ∷ []
 
-abbrev pub axis_code : List Field
-axis_code = field.CodeOf EV_ABS ∷ []
-
 -- the greatest count of a read of this role
 abbrev pub count_max : Role → ℕ
 count_max roles.Joy = 2 ^ 32 - 1
@@ -65,8 +62,8 @@ command_rows stream role =
     ∷ command_line (codes "leds") (is_tap role) [] commands.Leds
     ∷ command_line (codes "sounds") (is_tap role) [] commands.Sounds
     ∷ command_line (codes "syncslots") (is_tap role) [] commands.SyncSlots
-    ∷ command_line (codes "axis") (is_tap role) axis_code commands.Axis
-    ∷ command_line (codes "slots") (is_tap role) axis_code commands.Slots
+    ∷ command_line (codes "axis") (is_tap role) (field.CodeOf EV_ABS ∷ []) commands.Axis
+    ∷ command_line (codes "slots") (is_tap role) (field.CodeOf EV_ABS ∷ []) commands.Slots
     ∷ command_line (codes "next") (is_client role) (field.count ∷ []) commands.Next
     ∷ command_line (codes "skip") (is_client role) (field.count ∷ []) commands.Skip
     ∷ command_line (codes "follow") (is_client role) [] commands.Follow

@@ -23,14 +23,10 @@ actors_lines actors device = flat_map (actor_lines device) actors
 abbrev pub device_word : Bool → List ℕ
 device_word requested = if requested then codes "udevice" else codes "device"
 
--- the line that begins a device
-abbrev pub device_words : DeviceText → Words
-device_words device = device_word device.requested ∷ device.name ∷ []
-
 -- a device with its number: its name, its description and its actors
 unfoldable pub device_lines : List ActorText → ℕ × DeviceText → List Words
 device_lines actors d =
-    device_words d.1 ∷ (description_lines d.1.caps ++ actors_lines actors d.0)
+    (device_word d.1.requested ∷ d.1.name ∷ []) ∷ (description_lines d.1.caps ++ actors_lines actors d.0)
 
 -- all devices with their numbers
 unfoldable pub devices_lines : List ActorText → List DeviceText → List Words

@@ -2,7 +2,7 @@
 ghost use Rattle.std.specs.Prelude.{◌≡◌, ℕ, ◌<◌, [], ◌∷◌, ◌++◌, length, codes, decimal, string_bytes, IfOk, OnOk, map, slice_get, Some};
 ghost use Rattle.inp_actors.specs.declared.line.Line.{Line as LineView};
 ghost use Rattle.inp_record.specs.canon.Words.{line_text, lines_text};
-ghost use Rattle.inp_record.specs.canon.Text.{actor_lines, actors_lines, device_words, device_lines, devices_lines, action_words, record_text};
+ghost use Rattle.inp_record.specs.canon.Text.{actor_lines, actors_lines, device_word, device_lines, devices_lines, action_words, record_text};
 ghost use Rattle.inp_record.specs.Spelling.{RoundTrips};
 
 use crate::canon::commands::push_command;
@@ -84,7 +84,7 @@ fn push_device(
 fn push_device_name(text: &mut String, device: &DeviceText) -> Result<(), NoMemory>
     ensures pushed { OnOk result
         (string_bytes text.new
-        ≡ string_bytes text.old ++ lines_text (device_words device.now ∷ [])) }
+        ≡ string_bytes text.old ++ lines_text ((device_word device.now.requested ∷ device.now.name ∷ []) ∷ [])) }
 {
     let name = device.name.as_str();
     if device.requested {

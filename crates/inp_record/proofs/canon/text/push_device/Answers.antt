@@ -1,6 +1,6 @@
 use Rattle.std.proofs.Common.{[], ◌∷◌, ◌++◌}
 use Rattle.inp_record.specs.canon.Device.{description_lines}
-use Rattle.inp_record.specs.canon.Text.{actors_lines, device_words, device_lines}
+use Rattle.inp_record.specs.canon.Text.{actors_lines, device_word, device_lines}
 use Rattle.inp_record.proofs.Written.{sections}
 use Rattle.inp_record.proofs.canon.text.push_device.Goals as goal
 
@@ -12,7 +12,7 @@ returns c =
     let acting = actors_lines c.args.actors.now c.args.index in
     record {
       pushed =
-          sections _ _ _ (device_words c.args.device.now ∷ [])
+          sections _ _ _ ((device_word c.args.device.now.requested ∷ c.args.device.now.name ∷ []) ∷ [])
           (described ++ acting) c.in_ok-push_device_name.ensures.pushed
           (sections _ _ _ described acting c.in_ok-push_description.ensures.pushed
           c.in_ok-push_actors.ensures.pushed);
