@@ -33,7 +33,7 @@ use Rattle.inp_script.specs.Job.{JobView, JoyJobView, OwnerView}
 use Rattle.inp_texts.specs.Texts.{text_of_lines}
 use Rattle.inp_report.specs.Sights.{sight_line}
 use Rattle.inp_report.specs.Views.{view_text}
-use Rattle.inp_report.specs.Report.{stop_line, reading_text, report}
+use Rattle.inp_report.specs.Report.{role_part, part_text, report}
 use Rattle.inp_report.specs.JoyReport.{joy_report}
 use Rattle.inp_report.specs.OwnerReport.{owner_report}
 use Rattle.inp_report.specs.Summary.{summary}
@@ -117,7 +117,7 @@ CountsNoEnd =
 -- a client follows a press and a release
 abbrev pub ShowsAClient : Type 0
 ShowsAClient =
-    reading_text Client (codes "c") one_key (job 1 (
+    part_text Client (codes "c") one_key (job 1 (
     Call Open (Opened 0 0 128)
     ∷ Call (GetKeys 0) (Bits 1 (replicate 12 0))
     ∷ Call (Read 0 64) (Taking 6 4)
@@ -172,7 +172,7 @@ ShowsEachClass =
 
 -- a job that found nothing three times, the last at the place 12
 abbrev pub ShowsIdle : Type 0
-ShowsIdle = stop_line (Idle 3 12) ≡ text_of_lines (codes "stop idle 3 12" ∷ [])
+ShowsIdle = role_part Tap (codes "t") [] (Idle 3 12) ≡ text_of_lines (codes "tap t" ∷ codes "stop idle 3 12" ∷ [])
 
 -- A touchpad with two slots and no axis of its own: of each slot the place and the id, those of an empty slot too.
 abbrev pub ShowsContacts : Type 0

@@ -1,6 +1,6 @@
 -- The report of a record's joysticks, which stands after that of its devices (docs/FORMATS.md, "The
 -- joysticks").
-use Rattle.std.specs.Prelude.{ℕ, ℤ, Bool, List, [], ◌++◌, length, take, codes, decimal, flat_map, slice_get, option_map, option_and_then, unwrap_or}
+use Rattle.std.specs.Prelude.{ℕ, List, ◌++◌, length, take, codes, decimal, flat_map}
 use Rattle.std.specs.Fmt.{signed_decimal}
 use Rattle.inp_bits.specs.Bits.{true_indices}
 use Rattle.inp_model.specs.Description.{Description}
@@ -11,40 +11,23 @@ use Rattle.inp_actors.specs.Record.{RecordView}
 use Rattle.inp_joy.specs.Codes.{axes}
 use Rattle.inp_joy.specs.Picture.{PictureView}
 use Rattle.inp_script.specs.Job.{JoyJobView}
-use Rattle.inp_report.specs.Words.{LINE_FEED}
+use Rattle.inp_report.specs.Words.{LINE_FEED, spaced}
 use Rattle.inp_report.specs.Sights.{sight_line}
-use Rattle.inp_report.specs.Report.{actor_line, stop_line}
+use Rattle.inp_report.specs.Report.{role_part, text_at}
 
--- a number after a space
-abbrev pub spaced_number : ℕ → List ℕ
-spaced_number number = codes " " ++ decimal number
+-- how the buttons and axes stand: the numbers of the buttons that are down, ascending, and the value of each
+-- axis that the device has as a joystick, by its number
+unfoldable pub picture_text : Description → PictureView → List ℕ
+picture_text d p =
+    (codes "buttons" ++ spaced decimal (true_indices p.buttons) ++ LINE_FEED)
+    ++ (codes "axes" ++ spaced signed_decimal (take (length (axes d)) p.axes) ++ LINE_FEED)
 
-abbrev pub spaced_value : ℤ → List ℕ
-spaced_value value = codes " " ++ signed_decimal value
-
--- buttons, and the numbers of those that are down, ascending
-unfoldable pub buttons_line : List Bool → List ℕ
-buttons_line buttons = codes "buttons" ++ (flat_map spaced_number (true_indices buttons) ++ LINE_FEED)
-
--- axes, and the value of each axis that the device has as a joystick, by its number
-unfoldable pub values_line : Description → List ℤ → List ℕ
-values_line d values = codes "axes" ++ (flat_map spaced_value (take (length (axes d)) values) ++ LINE_FEED)
-
--- how the buttons and axes stand
-abbrev pub picture_text : Description → PictureView → List ℕ
-picture_text d p = buttons_line p.buttons ++ values_line d p.axes
-
--- of a joystick: its name, what it saw, how its buttons and axes stand, and why it stopped
-abbrev pub joystick_text : List ℕ → Description → JoyJobView → List ℕ
-joystick_text name d joy =
-    actor_line Joy name ++ (flat_map sight_line joy.sight ++ (picture_text d joy.picture ++ stop_line joy.stop))
-
--- the part of the joystick that did the job
+-- the part of the joystick that did the job: what it saw, and how its buttons and axes stand
 abbrev pub joy_text : RecordView → JoyJobView → List ℕ
 joy_text r joy =
-    unwrap_or (option_and_then (λ (actor : ActorText).
-    option_map (λ (device : DeviceText). joystick_text actor.name device.caps joy) (slice_get r.devices actor.device))
-    (slice_get r.actors joy.actor)) []
+    text_at (λ (actor : ActorText). text_at (λ (device : DeviceText).
+    role_part Joy actor.name (flat_map sight_line joy.sight ++ picture_text device.caps joy.picture) joy.stop)
+    r.devices actor.device) r.actors joy.actor
 
 -- the joysticks in order
 unfoldable pub joy_report : RecordView → List JoyJobView → List ℕ

@@ -3,6 +3,7 @@ pub mod Steps
 pub mod Replies
 pub mod Sights
 pub mod Views
+pub mod Entries
 pub mod Report
 pub mod JoyReport
 pub mod OwnerReport

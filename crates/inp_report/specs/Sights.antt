@@ -3,7 +3,6 @@ use Rattle.std.specs.Prelude.{ℕ, Bool, true, false, ◌&&◌, not, List, ◌++
 use Rattle.std.specs.Fmt.{signed_decimal}
 use Rattle.inp_model.specs.Step.{is_end_step}
 use Rattle.inp_model.specs.Reply.{is_accepted}
-use Rattle.inp_joy.specs.declared.joy_record.JoyRecord.{JoyRecord}
 use Rattle.inp_joy.specs.JoyRecord.{record_in}
 use Rattle.inp_script.specs.declared.sight.Sight.{Sight}
 use Rattle.inp_script.specs.declared.sight.Sight.TheVariants.{Call, Took, Made, Again, Record}
@@ -15,18 +14,15 @@ use Rattle.inp_report.specs.Replies.{reply_text}
 unfoldable pub stamp_text : ℕ → ℕ → List ℕ
 stamp_text place time = codes "took " ++ (decimal place ++ (codes " " ++ (decimal time ++ codes " ")))
 
--- js TIME VALUE TYPE NUMBER, of a joystick's record
-unfoldable pub joy_record_text : JoyRecord → List ℕ
-joy_record_text r =
-    codes "js " ++ (decimal r.time ++ (codes " " ++ (signed_decimal r.value ++ (codes " " ++ (decimal r.kind ++ (codes " " ++ decimal r.number))))))
-
--- one line for each entry of a sight
+-- one line for each entry of a sight; of a joystick's record js TIME VALUE TYPE NUMBER
 unfoldable pub sight_line : Sight → List ℕ
 sight_line (Call x reply) = codes "call " ++ (step_text x ++ (codes " reply " ++ (reply_text x reply ++ LINE_FEED)))
 sight_line (Took t) = codes "took " ++ (decimal t.place ++ (codes " " ++ (decimal t.time ++ (codes " " ++ (event_text t.event ++ LINE_FEED)))))
 sight_line (Made e) = codes "made " ++ (event_text e ++ LINE_FEED)
 sight_line (Again at ends) = codes "again " ++ (decimal at ++ LINE_FEED)
-sight_line (Record bytes) = joy_record_text (record_in bytes) ++ LINE_FEED
+sight_line (Record bytes) = let r = record_in bytes in
+    codes "js " ++ (decimal r.time ++ (codes " " ++ (signed_decimal r.value ++ (codes " " ++ (decimal r.kind
+    ++ (codes " " ++ (decimal r.number ++ LINE_FEED)))))))
 
 -- a call that counts as one of a source: an accepted one, but for the End that follows its lines
 abbrev pub is_counted_call : Sight → Bool

@@ -1,13 +1,12 @@
--- How events, masks, axes, refusals and stops are written (docs/FORMATS.md, "The words of a report").
-use Rattle.std.specs.Prelude.{ℕ, ℤ, Bool, List, [], ◌∷◌, ◌++◌, codes, decimal, flat_map}
+-- How codes, events, axes, refusals and stops are written (docs/FORMATS.md, "The words of a report").
+use Rattle.std.specs.Prelude.{ℕ, Bool, List, [], ◌∷◌, ◌++◌, codes, decimal, flat_map}
 use Rattle.std.specs.Fmt.{signed_decimal}
-use Rattle.inp_model.specs.declared.event.TheConstants.{EV_ABS}
 use Rattle.inp_model.specs.declared.axis_info.AxisInfo.{AxisInfo}
 use Rattle.inp_model.specs.declared.event.Event.{Event}
 use Rattle.inp_model.specs.declared.reply.Refusal.{Refusal}
 use Rattle.inp_model.specs.declared.reply.Refusal.TheVariants.{BadClient, NoDevice, BadKind, BadCode, BadInfo, Busy, NotGrabber, TooMany, LogFull, NoMemory}
 use Rattle.inp_bits.specs.Bits.{true_indices}
-use Rattle.inp_texts.specs.Texts.{kind_text, code_text, bits_text}
+use Rattle.inp_texts.specs.Texts.{kind_text, code_text}
 use Rattle.inp_script.specs.declared.stop.Stop.{Stop}
 use Rattle.inp_script.specs.declared.stop.Stop.TheVariants.{Finished, Idle, Full}
 
@@ -15,13 +14,13 @@ use Rattle.inp_script.specs.declared.stop.Stop.TheVariants.{Finished, Idle, Full
 abbrev pub LINE_FEED : List ℕ
 LINE_FEED = 10 ∷ []
 
--- a code of the type, after a space
-abbrev pub spaced_code : ℕ → ℕ → List ℕ
-spaced_code kind code = codes " " ++ code_text kind code
+-- what stands for each item, after a space
+abbrev pub spaced : {X : Type 0} → (X → List ℕ) → List X → List ℕ
+spaced text_of items = flat_map (λ item. codes " " ++ text_of item) items
 
 -- the codes that are on, ascending, each after a space
 unfoldable pub flags_text : ℕ → List Bool → List ℕ
-flags_text kind flags = flat_map (spaced_code kind) (true_indices flags)
+flags_text kind flags = spaced (code_text kind) (true_indices flags)
 
 -- KIND CODE, and a space after each
 unfoldable pub event_label : ℕ → ℕ → List ℕ
@@ -31,19 +30,9 @@ event_label kind code = kind_text kind ++ (codes " " ++ (code_text kind code ++ 
 unfoldable pub event_text : Event → List ℕ
 event_text e = kind_text e.kind ++ (codes " " ++ (code_text e.kind e.code ++ (codes " " ++ signed_decimal e.value)))
 
--- KIND WORD BITS, of a mask that is set
-unfoldable pub mask_text : ℕ → ℕ → ℕ → List ℕ
-mask_text kind word bits = kind_text kind ++ (codes " " ++ (decimal word ++ (codes " " ++ bits_text bits)))
-
--- VALUE MINIMUM MAXIMUM FUZZ FLAT RESOLUTION
-unfoldable pub axis_text : AxisInfo → List ℕ
-axis_text i =
-    signed_decimal i.value ++ (codes " " ++ (signed_decimal i.minimum ++ (codes " " ++ (signed_decimal i.maximum
-    ++ (codes " " ++ (signed_decimal i.fuzz ++ (codes " " ++ (signed_decimal i.flat ++ (codes " " ++ signed_decimal i.resolution)))))))))
-
--- CODE=VALUE, of an axis
-unfoldable pub value_text : ℕ → ℤ → List ℕ
-value_text code value = code_text EV_ABS code ++ (codes "=" ++ signed_decimal value)
+-- VALUE MINIMUM MAXIMUM FUZZ FLAT RESOLUTION, each after a space
+unfoldable pub axis_numbers : AxisInfo → List ℕ
+axis_numbers i = spaced signed_decimal (i.value ∷ i.minimum ∷ i.maximum ∷ i.fuzz ∷ i.flat ∷ i.resolution ∷ [])
 
 unfoldable pub refusal_text : Refusal → List ℕ
 refusal_text BadClient = codes "bad-client"

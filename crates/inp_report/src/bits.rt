@@ -1,8 +1,8 @@
 //! Lists of codes: the bits of a reply, and the flags of a view.
-ghost use Rattle.std.specs.Prelude.{◌≡◌, ◌≤◌, ◌++◌, OnOk};
+ghost use Rattle.std.specs.Prelude.{◌≡◌, ◌≤◌, ◌++◌, codes, OnOk};
 ghost use Rattle.inp_recon.specs.View.{key_count, bits_in};
-ghost use Rattle.inp_report.specs.Words.{spaced_code, flags_text};
-ghost use Rattle.inp_report.specs.Replies.{codes_on_text};
+ghost use Rattle.inp_texts.specs.Texts.{code_text};
+ghost use Rattle.inp_report.specs.Words.{flags_text};
 
 use inp_bits::Bits;
 use inp_model::NoMemory;
@@ -10,7 +10,7 @@ use inp_texts::{Page, push_code};
 
 pub(crate) fn push_bits(text: &mut Page, kind: u16, words: &[u64; 12]) -> Result<(), NoMemory>
     ensures pushed { OnOk result
-        (text.new ≡ text.old ++ codes_on_text kind words.now) }
+        (text.new ≡ text.old ++ flags_text kind (bits_in key_count words.now)) }
 {
     push_flags(text, kind, &bits_in(words))
 }
@@ -43,7 +43,7 @@ pub(crate) fn push_flags<const W: usize>(
 
 fn push_spaced_code(text: &mut Page, kind: u16, code: u16) -> Result<(), NoMemory>
     ensures pushed { OnOk result
-        (text.new ≡ text.old ++ spaced_code kind code) }
+        (text.new ≡ text.old ++ (codes " " ++ code_text kind code)) }
 {
     text.push_str(" ")?;
     push_code(text, kind, code)

@@ -1,12 +1,16 @@
 //! The summary.
-ghost use Rattle.std.specs.Prelude.{◌≡◌, ◌<◌, ◌++◌, true, length, IfOk, OnOk, flat_map};
-ghost use Rattle.std.specs.List.{zip};
+ghost use Rattle.std.specs.Prelude.{◌≡◌, ◌<◌, ◌++◌, true, length, codes, decimal, IfOk, OnOk, flat_map};
+ghost use Rattle.std.specs.List.{count_by, zip};
+ghost use Rattle.std.specs.Fmt.{signed_decimal};
+ghost use Rattle.inp_model.specs.declared.multi_touch.TheConstants.{ABS_MT_POSITION_X, ABS_MT_POSITION_Y};
 ghost use Rattle.inp_model.specs.Description.{is_slot_code};
 ghost use Rattle.inp_recon.specs.Cells.{cell_of};
-ghost use Rattle.inp_report.specs.Summary.{told_slot, make_line, calls_line, counts_text, position_text, counts_line, brief_line, job_brief, run_brief, summary};
+ghost use Rattle.inp_report.specs.Sights.{is_took, is_made, is_again_sight};
+ghost use Rattle.inp_report.specs.Summary.{counts_line, brief_line, job_brief, run_brief, summary};
 ghost use Rattle.inp_script.specs.Runs.{AreRunsOf, IsRunOf};
 
-use crate::sights::{SightCounts, counted_calls, sight_counts};
+use crate::jobs::push_calls;
+use crate::sights::{SightCounts, sight_counts};
 use crate::whole::push_device;
 use inp_actors::{ActorText, Actors, DeviceText, Name, Record, Role};
 use inp_model::{ABS_MT_POSITION_X, ABS_MT_POSITION_Y, NoMemory};
@@ -57,17 +61,8 @@ fn push_summary(
         (text.new
         ≡ text.old ++ summary number count rec.now runs.now) }
 {
-    push_make(text, number, count)?;
-    push_briefs(text, rec, runs)
-}
-
-#[tactic(auto, unfolding(crate::specs::Summary::make_line))]
-fn push_make(text: &mut Page, number: u32, count: u32) -> Result<(), NoMemory>
-    ensures pushed { OnOk result
-        (text.new ≡ text.old ++ make_line number count) }
-{
     write!(text, "make {number} {count}\n")?;
-    Ok(())
+    push_briefs(text, rec, runs)
 }
 
 fn push_briefs(text: &mut Page, rec: &Record, runs: &Runs) -> Result<(), NoMemory>
@@ -117,62 +112,60 @@ fn push_brief(text: &mut Page, actor: &ActorText, job: &JobEnd) -> Result<(), No
         ≡ text.old ++ brief_line actor.now.role actor.now.name job.now) }
 {
     match actor.role {
-        Role::Source => push_calls(text, &actor.name, counted_calls(job.sight())),
+        Role::Source => {
+            push_calls(text, &actor.name, job.sight())?;
+            text.push_str("\n")
+        }
         Role::Client => push_counts(text, Role::Client, &actor.name, job),
         Role::Tap => push_counts(text, Role::Tap, &actor.name, job),
         Role::Joy | Role::Owner => Ok(()),
     }
 }
 
-#[tactic(auto, unfolding(crate::specs::Summary::calls_line))]
-fn push_calls(text: &mut Page, name: &Name, calls: usize) -> Result<(), NoMemory>
-    ensures pushed { OnOk result
-        (text.new ≡ text.old ++ calls_line name.now calls) }
-{
-    let name = name.as_str();
-    write!(text, "source {name} calls {calls}\n")?;
-    Ok(())
-}
-
+#[tactic(auto, unfolding(crate::specs::Summary::counts_line))]
 fn push_counts(text: &mut Page, role: Role, name: &Name, job: &JobEnd) -> Result<(), NoMemory>
     ensures pushed { OnOk result
         (text.new ≡ text.old ++ counts_line role name.now job.now) }
 {
     let role = RoleText(role);
     let name = name.as_str();
-    write!(text, "{role} {name} ")?;
+    write!(text, "{role} {name}")?;
     push_sight_counts(text, job.sight())?;
-    text.push_str(" ")?;
     push_position(text, &job.view().cells)?;
     text.push_str("\n")?;
     Ok(())
 }
 
-#[tactic(auto, unfolding(crate::specs::Summary::counts_text))]
 fn push_sight_counts(text: &mut Page, sights: &Sights) -> Result<(), NoMemory>
     ensures pushed { OnOk result
-        (text.new ≡ text.old ++ counts_text sights.now) }
+        (text.new
+        ≡ text.old
+        ++ (codes " took " ++ (decimal (count_by is_took sights.now)
+        ++ (codes " made " ++ (decimal (count_by is_made sights.now)
+        ++ (codes " again " ++ decimal (count_by is_again_sight sights.now))))))) }
 {
     let SightCounts { took, made, again } = sight_counts(sights);
-    write!(text, "took {took} made {made} again {again}")?;
+    write!(text, " took {took} made {made} again {again}")?;
     Ok(())
 }
 
-#[tactic(auto, unfolding(crate::specs::Summary::position_text))]
 fn push_position(text: &mut Page, cells: &Cells) -> Result<(), NoMemory>
     ensures pushed { OnOk result
-        (text.new ≡ text.old ++ position_text cells.now) }
+        (text.new
+        ≡ text.old
+        ++ (codes " x " ++ (signed_decimal (cell_of cells.now 9 ABS_MT_POSITION_X)
+        ++ (codes " y " ++ signed_decimal (cell_of cells.now 9 ABS_MT_POSITION_Y))))) }
 {
     let x = told_value(cells, ABS_MT_POSITION_X);
     let y = told_value(cells, ABS_MT_POSITION_Y);
-    write!(text, "x {x} y {y}")?;
+    write!(text, " x {x} y {y}")?;
     Ok(())
 }
 
 // The value of the slot that is told, 0 where there is no such slot.
 fn told_value(cells: &Cells, code: u16) -> i32
     requires code { is_slot_code code ≡ true }
-    ensures value { result ≡ cell_of cells.now told_slot code }
+    ensures value { result ≡ cell_of cells.now 9 code }
 {
     if TOLD_SLOT < cells.slot_count() {
         cells.value(TOLD_SLOT, code)

@@ -1,7 +1,11 @@
 //! The part of one actor.
-ghost use Rattle.std.specs.Prelude.{◌≡◌, ◌<◌, ◌++◌, length, OnOk};
+ghost use Rattle.std.specs.Prelude.{◌≡◌, ◌<◌, ◌++◌, codes, length, OnOk, flat_map};
 ghost use Rattle.inp_recon.specs.View.{IsSizedFor};
-ghost use Rattle.inp_report.specs.Report.{source_line, actor_line, stop_line, reading_text, part_text, job_text};
+ghost use Rattle.inp_texts.specs.Texts.{role_text};
+ghost use Rattle.inp_report.specs.Words.{LINE_FEED, stop_text};
+ghost use Rattle.inp_report.specs.Sights.{sight_line};
+ghost use Rattle.inp_report.specs.Views.{view_text};
+ghost use Rattle.inp_report.specs.Report.{calls_text, role_part, part_text, job_text};
 
 use crate::sights::{counted_calls, push_sights};
 use crate::views::push_view;
@@ -9,7 +13,7 @@ use crate::words::{push_numbered, push_stop};
 use inp_actors::{ActorText, Actors, Name, Role};
 use inp_caps::Caps;
 use inp_model::NoMemory;
-use inp_script::{JobEnd, Stop};
+use inp_script::{JobEnd, Sights, Stop};
 use inp_texts::{Page, RoleText};
 
 pub(crate) fn push_job(
@@ -34,8 +38,10 @@ fn push_part(text: &mut Page, actor: &ActorText, caps: &Caps, job: &JobEnd) -> R
 {
     match actor.role {
         Role::Source => {
-            let calls = counted_calls(job.sight());
-            push_source(text, &actor.name, calls, *job.stop())
+            push_calls(text, &actor.name, job.sight())?;
+            text.push_str(" stop ")?;
+            push_stop(text, *job.stop())?;
+            text.push_str("\n")
         }
         Role::Client => push_reading(text, Role::Client, &actor.name, caps, job),
         Role::Tap => push_reading(text, Role::Tap, &actor.name, caps, job),
@@ -43,6 +49,7 @@ fn push_part(text: &mut Page, actor: &ActorText, caps: &Caps, job: &JobEnd) -> R
     }
 }
 
+#[tactic(auto, unfolding(crate::specs::Report::role_part))]
 fn push_reading(
     text: &mut Page,
     role: Role,
@@ -53,7 +60,9 @@ fn push_reading(
     requires view { IsSizedFor caps.now.slots job.now.view }
     ensures pushed { OnOk result
         (text.new
-        ≡ text.old ++ reading_text role name.now caps.now job.now) }
+        ≡ text.old
+        ++ role_part role name.now (flat_map sight_line job.now.sight
+        ++ view_text caps.now job.now.view) job.now.stop) }
 {
     push_actor(text, role, name)?;
     push_sights(text, job.sight())?;
@@ -61,24 +70,20 @@ fn push_reading(
     push_stop_line(text, *job.stop())
 }
 
-#[tactic(auto, unfolding(crate::specs::Report::source_line))]
-fn push_source(text: &mut Page, name: &Name, calls: usize, stop: Stop) -> Result<(), NoMemory>
+/// Appends the name of a source and how many calls it made.
+#[tactic(auto, unfolding(crate::specs::Report::calls_text))]
+pub(crate) fn push_calls(text: &mut Page, name: &Name, sights: &Sights) -> Result<(), NoMemory>
     ensures pushed { OnOk result
-        (text.new ≡ text.old ++ source_line name.now calls stop) }
+        (text.new ≡ text.old ++ calls_text name.now sights.now) }
 {
     text.push_str("source ")?;
     text.push_str(name.as_str())?;
-    push_numbered(text, " calls ", calls as u64)?;
-    text.push_str(" stop ")?;
-    push_stop(text, stop)?;
-    text.push_str("\n")?;
-    Ok(())
+    push_numbered(text, " calls ", counted_calls(sights) as u64)
 }
 
-#[tactic(auto, unfolding(crate::specs::Report::actor_line))]
 pub(crate) fn push_actor(text: &mut Page, role: Role, name: &Name) -> Result<(), NoMemory>
     ensures pushed { OnOk result
-        (text.new ≡ text.old ++ actor_line role name.now) }
+        (text.new ≡ text.old ++ (role_text role ++ (codes " " ++ (name.now ++ LINE_FEED)))) }
 {
     let role = RoleText(role);
     let name = name.as_str();
@@ -86,9 +91,9 @@ pub(crate) fn push_actor(text: &mut Page, role: Role, name: &Name) -> Result<(),
     Ok(())
 }
 
-#[tactic(auto, unfolding(crate::specs::Report::stop_line))]
 pub(crate) fn push_stop_line(text: &mut Page, stop: Stop) -> Result<(), NoMemory>
-    ensures pushed { OnOk result (text.new ≡ text.old ++ stop_line stop) }
+    ensures pushed { OnOk result
+        (text.new ≡ text.old ++ (codes "stop " ++ (stop_text stop ++ LINE_FEED))) }
 {
     text.push_str("stop ")?;
     push_stop(text, stop)?;

@@ -1,6 +1,9 @@
 //! The report of the joysticks.
-ghost use Rattle.std.specs.Prelude.{◌≡◌, ◌<◌, ◌++◌, length, IfOk, OnOk};
-ghost use Rattle.inp_report.specs.JoyReport.{joystick_text, joy_text, joy_report};
+ghost use Rattle.std.specs.Prelude.{◌≡◌, ◌<◌, ◌++◌, length, IfOk, OnOk, flat_map};
+ghost use Rattle.inp_actors.specs.declared.role.Role.TheVariants.{Joy};
+ghost use Rattle.inp_report.specs.Sights.{sight_line};
+ghost use Rattle.inp_report.specs.Report.{role_part};
+ghost use Rattle.inp_report.specs.JoyReport.{picture_text, joy_text, joy_report};
 ghost use Rattle.inp_script.specs.Runs.{AreJoysOf};
 
 use crate::jobs::{push_actor, push_stop_line};
@@ -53,10 +56,13 @@ fn push_joy(text: &mut Page, rec: &Record, joy: &JoyEnd) -> Result<(), NoMemory>
     push_joystick(text, &actor.name, &device.caps, joy)
 }
 
+#[tactic(auto, unfolding(crate::specs::Report::role_part))]
 fn push_joystick(text: &mut Page, name: &Name, caps: &Caps, joy: &JoyEnd) -> Result<(), NoMemory>
     ensures pushed { OnOk result
         (text.new
-        ≡ text.old ++ joystick_text name.now caps.now joy.now) }
+        ≡ text.old
+        ++ role_part Joy name.now (flat_map sight_line joy.now.sight
+        ++ picture_text caps.now joy.now.picture) joy.now.stop) }
 {
     push_actor(text, Role::Joy, name)?;
     push_sights(text, joy.sight())?;

@@ -1,6 +1,8 @@
 //! The report of the owners.
-ghost use Rattle.std.specs.Prelude.{◌≡◌, ◌<◌, ◌++◌, length, IfOk, OnOk};
-ghost use Rattle.inp_report.specs.OwnerReport.{fed_line, owner_part, owner_text, owner_report};
+ghost use Rattle.std.specs.Prelude.{◌≡◌, ◌<◌, ◌++◌, length, IfOk, OnOk, flat_map};
+ghost use Rattle.inp_actors.specs.declared.role.Role.TheVariants.{Owner};
+ghost use Rattle.inp_report.specs.Report.{role_part};
+ghost use Rattle.inp_report.specs.OwnerReport.{fed_line, owner_text, owner_report};
 ghost use Rattle.inp_script.specs.Runs.{AreOwnersOf};
 
 use crate::jobs::{push_actor, push_stop_line};
@@ -52,9 +54,11 @@ fn push_owner(text: &mut Page, rec: &Record, owner: &OwnerEnd) -> Result<(), NoM
     push_owner_part(text, &actor.name, owner)
 }
 
+#[tactic(auto, unfolding(crate::specs::Report::role_part))]
 fn push_owner_part(text: &mut Page, name: &Name, owner: &OwnerEnd) -> Result<(), NoMemory>
     ensures pushed { OnOk result
-        (text.new ≡ text.old ++ owner_part name.now owner.now) }
+        (text.new
+        ≡ text.old ++ role_part Owner name.now (flat_map fed_line owner.now.fed) owner.now.stop) }
 {
     push_actor(text, Role::Owner, name)?;
     for sight in owner.fed().as_slice() {

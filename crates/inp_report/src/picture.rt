@@ -1,10 +1,12 @@
 //! How the buttons and axes of a joystick stand.
-ghost use Rattle.std.specs.Prelude.{◌≡◌, ◌≤◌, ◌-◌, ◌++◌, length, OnOk, flat_map};
+ghost use Rattle.std.specs.Prelude.{◌≡◌, ◌≤◌, ◌-◌, ◌++◌, codes, decimal, length, take, OnOk};
+ghost use Rattle.std.specs.Fmt.{signed_decimal};
 ghost use Rattle.inp_bits.specs.Bits.{true_indices, word_bits};
 ghost use Rattle.inp_joy.specs.Codes.{axes};
 ghost use Rattle.inp_joy.specs.Picture.{seen_as};
 ghost use Rattle.inp_reader.specs.Reader.{axes_among};
-ghost use Rattle.inp_report.specs.JoyReport.{spaced_number, spaced_value, buttons_line, values_line, picture_text};
+ghost use Rattle.inp_report.specs.Words.{LINE_FEED, spaced};
+ghost use Rattle.inp_report.specs.JoyReport.{picture_text};
 
 use crate::words::{push_numbered, push_spaced};
 use inp_bits::Bits;
@@ -13,6 +15,7 @@ use inp_joy::Picture;
 use inp_model::{ABS_MAX, ABS_MT_SLOT, ABS_MT_TOOL_Y, EV_ABS, NoMemory};
 use inp_texts::Page;
 
+#[tactic(auto, unfolding(crate::specs::JoyReport::picture_text))]
 pub(crate) fn push_picture(text: &mut Page, caps: &Caps, picture: &Picture) -> Result<(), NoMemory>
     ensures pushed { OnOk result
         (text.new
@@ -22,10 +25,11 @@ pub(crate) fn push_picture(text: &mut Page, caps: &Caps, picture: &Picture) -> R
     push_values_line(text, caps, &picture.axes)
 }
 
-#[tactic(auto, unfolding(crate::specs::JoyReport::buttons_line))]
 fn push_buttons_line(text: &mut Page, buttons: u64) -> Result<(), NoMemory>
     ensures pushed { OnOk result
-        (text.new ≡ text.old ++ buttons_line (word_bits buttons)) }
+        (text.new
+        ≡ text.old
+        ++ (codes "buttons" ++ spaced decimal (true_indices (word_bits buttons)) ++ LINE_FEED)) }
 {
     text.push_str("buttons")?;
     push_numbers(text, &bits_of(buttons))?;
@@ -46,7 +50,7 @@ fn bits_of(word: u64) -> Bits<1>
 fn push_numbers(text: &mut Page, flags: &Bits<1>) -> Result<(), NoMemory>
     ensures pushed { OnOk result
         (text.new
-        ≡ text.old ++ flat_map spaced_number (true_indices flags.now)) }
+        ≡ text.old ++ spaced decimal (true_indices flags.now)) }
 {
     for number in flags.ones() {
         push_spaced_number(text, number)?;
@@ -56,15 +60,16 @@ fn push_numbers(text: &mut Page, flags: &Bits<1>) -> Result<(), NoMemory>
 
 fn push_spaced_number(text: &mut Page, number: u32) -> Result<(), NoMemory>
     ensures pushed { OnOk result
-        (text.new ≡ text.old ++ spaced_number number) }
+        (text.new ≡ text.old ++ (codes " " ++ decimal number)) }
 {
     push_numbered(text, " ", u64::from(number))
 }
 
-#[tactic(auto, unfolding(crate::specs::JoyReport::values_line))]
 fn push_values_line(text: &mut Page, caps: &Caps, values: &[i16; 64]) -> Result<(), NoMemory>
     ensures pushed { OnOk result
-        (text.new ≡ text.old ++ values_line caps.now values.now) }
+        (text.new
+        ≡ text.old
+        ++ (codes "axes" ++ spaced signed_decimal (take (length (axes caps.now)) values.now) ++ LINE_FEED)) }
 {
     text.push_str("axes")?;
     push_values(text, &values[..axis_count(caps)])?;
@@ -74,7 +79,7 @@ fn push_values_line(text: &mut Page, caps: &Caps, values: &[i16; 64]) -> Result<
 
 fn push_values(text: &mut Page, values: &[i16]) -> Result<(), NoMemory>
     ensures pushed { OnOk result
-        (text.new ≡ text.old ++ flat_map spaced_value values.now) }
+        (text.new ≡ text.old ++ spaced signed_decimal values.now) }
 {
     for value in values {
         push_spaced(text, i32::from(*value))?;

@@ -1,14 +1,15 @@
 //! What a job saw, and its counts.
 ghost use Rattle.std.specs.Prelude.{◌≡◌, ◌++◌, codes, decimal, OnOk, flat_map};
 ghost use Rattle.std.specs.List.{count_by};
-ghost use Rattle.inp_model.specs.Step.{is_end_step};
+ghost use Rattle.std.specs.Fmt.{signed_decimal};
+ghost use Rattle.inp_model.specs.Step.{is_end_step, query_of};
 ghost use Rattle.inp_model.specs.declared.reply.Reply.TheVariants.{Took};
 ghost use Rattle.inp_model.specs.declared.step.Step.TheVariants.{Read};
 ghost use Rattle.inp_script.specs.declared.sight.Sight.TheVariants.{Call};
 ghost use Rattle.inp_script.specs.SightRef.{sight_of};
 ghost use Rattle.inp_report.specs.Steps.{step_text};
 ghost use Rattle.inp_report.specs.Replies.{query_kind, reply_text};
-ghost use Rattle.inp_report.specs.Sights.{joy_record_text, sight_line, is_counted_call, is_took, is_made, is_again_sight};
+ghost use Rattle.inp_report.specs.Sights.{sight_line, is_counted_call, is_took, is_made, is_again_sight};
 
 use crate::bits::push_bits;
 use crate::step_text::push_step_text;
@@ -86,10 +87,13 @@ fn push_read(text: &mut Page, client: u32, most: u32, at: u32, count: u32) -> Re
 }
 
 #[inline(never)]
-#[tactic(auto, unfolding(crate::specs::Sights::joy_record_text))]
 fn push_joy_record(text: &mut Page, joy_record: JoyRecord) -> Result<(), NoMemory>
     ensures pushed { OnOk result
-        (text.new ≡ text.old ++ joy_record_text joy_record) }
+        (text.new
+        ≡ text.old
+        ++ (codes "js " ++ (decimal joy_record.time
+        ++ (codes " " ++ (signed_decimal joy_record.value
+        ++ (codes " " ++ (decimal joy_record.kind ++ (codes " " ++ decimal joy_record.number)))))))) }
 {
     let JoyRecord {
         time,
@@ -135,7 +139,6 @@ fn push_reply(text: &mut Page, step: Step, reply: &Reply) -> Result<(), NoMemory
         }
         Reply::Axis { at, info } => {
             push_numbered(text, "axis ", u64::from(*at))?;
-            text.push_str(" ")?;
             push_axis(text, *info)
         }
         Reply::Cells { at, count, slot } => {
@@ -163,7 +166,7 @@ fn push_counted(text: &mut Page, before: &str, at: u32, count: u32) -> Result<()
 
 // The type whose codes a step asks for, `EV_SYN` where it asks for none.
 fn query_kind(step: Step) -> u16
-    ensures kind { result ≡ query_kind step }
+    ensures kind { result ≡ query_kind (query_of step) }
 {
     match step {
         Step::GetKeys { .. } => EV_KEY,

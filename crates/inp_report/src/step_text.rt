@@ -2,7 +2,7 @@
 ghost use Rattle.std.specs.Prelude.{◌≡◌, ◌++◌, codes, decimal, OnOk};
 ghost use Rattle.inp_model.specs.declared.event.TheConstants.{EV_ABS};
 ghost use Rattle.inp_texts.specs.Texts.{code_text, clock_text};
-ghost use Rattle.inp_report.specs.Words.{event_text, mask_text};
+ghost use Rattle.inp_report.specs.Words.{event_text};
 ghost use Rattle.inp_report.specs.Steps.{step_text};
 
 use crate::words::{push_axis, push_event, push_mask, push_numbered};
@@ -31,7 +31,6 @@ pub(crate) fn push_step_text(text: &mut Page, step: Step) -> Result<(), NoMemory
         Step::GetAxis { client, code } => push_of_axis(text, "getaxis ", client, code),
         Step::SetAxis { client, code, info } => {
             push_of_axis(text, "setaxis ", client, code)?;
-            text.push_str(" ")?;
             push_axis(text, info)
         }
         Step::GetSlots { client, code } => push_of_axis(text, "getslots ", client, code),

@@ -1,19 +1,24 @@
 //! What a view says of a device.
-ghost use Rattle.std.specs.Prelude.{◌≡◌, ◌*◌, ◌<◌, ◌≤◌, ◌++◌, true, codes, length, OnOk, flat_map};
+ghost use Rattle.std.specs.Prelude.{◌≡◌, ◌*◌, ◌-◌, ◌<◌, ◌≤◌, ◌++◌, true, pos, codes, length, OnOk, flat_map, slice_index_or};
 ghost use Rattle.std.specs.List.{range_with_len};
-ghost use Rattle.inp_model.specs.declared.multi_touch.TheConstants.{SLOT_VALUES};
+ghost use Rattle.std.specs.Fmt.{signed_decimal};
+ghost use Rattle.inp_model.specs.declared.event.TheConstants.{EV_ABS};
+ghost use Rattle.inp_model.specs.declared.multi_touch.TheConstants.{ABS_MT_TOUCH_MAJOR, SLOT_VALUES};
 ghost use Rattle.inp_model.specs.Description.{is_slot_code};
-ghost use Rattle.inp_recon.specs.Cells.{slot_count};
+ghost use Rattle.inp_recon.specs.Cells.{slot_count, cell_of};
 ghost use Rattle.inp_recon.specs.View.{IsSizedFor};
-ghost use Rattle.inp_report.specs.Words.{value_text};
-ghost use Rattle.inp_report.specs.Views.{flags_line, axis_entry, axes_text, axes_line, slot_entry, slot_text, slot_line, current_line, slots_text, view_text};
+ghost use Rattle.inp_reader.specs.Reader.{axes_among, plain_axes};
+ghost use Rattle.inp_report.specs.Words.{LINE_FEED, flags_text};
+ghost use Rattle.inp_report.specs.Entries.{axis_entry};
+ghost use Rattle.inp_report.specs.Views.{kind_line, values_text, slot_line, slots_text, view_text};
 
 use crate::bits::push_flags;
 use crate::words::{push_numbered, push_value};
 use inp_bits::Bits;
 use inp_caps::Caps;
 use inp_model::{
-    ABS_MT_TOOL_Y, ABS_MT_TOUCH_MAJOR, EV_ABS, EV_KEY, EV_LED, EV_SW, NoMemory, is_multi_touch_code,
+    ABS_MAX, ABS_MT_SLOT, ABS_MT_TOOL_Y, ABS_MT_TOUCH_MAJOR, EV_ABS, EV_KEY, EV_LED, EV_SW,
+    NoMemory,
 };
 use inp_recon::{Cells, View};
 use inp_texts::{Page, push_signed};
@@ -31,7 +36,7 @@ pub(crate) fn push_view(text: &mut Page, caps: &Caps, view: &View) -> Result<(),
     push_slots(text, caps, view)
 }
 
-#[tactic(auto, unfolding(crate::specs::Views::flags_line))]
+#[tactic(auto, unfolding(crate::specs::Views::kind_line))]
 fn push_flags_line<const W: usize>(
     text: &mut Page,
     word: &str,
@@ -42,7 +47,7 @@ fn push_flags_line<const W: usize>(
     requires few { W ≤ 1024 }
     ensures pushed { OnOk result
         (text.new
-        ≡ text.old ++ flags_line caps.now word.now kind flags.now) }
+        ≡ text.old ++ kind_line caps.now kind (word.now ++ flags_text kind flags.now)) }
 {
     if !caps.has_kind(kind) {
         return Ok(());
@@ -53,25 +58,41 @@ fn push_flags_line<const W: usize>(
     Ok(())
 }
 
-#[tactic(auto, unfolding(crate::specs::Views::axes_line))]
+#[tactic(auto, unfolding(crate::specs::Views::kind_line))]
 fn push_axes(text: &mut Page, caps: &Caps, axes: &[i32; 64]) -> Result<(), NoMemory>
     ensures pushed { OnOk result
-        (text.new ≡ text.old ++ axes_line caps.now axes.now) }
+        (text.new
+        ≡ text.old
+        ++ kind_line caps.now EV_ABS (codes "axes"
+        ++ values_text (λ code. slice_index_or axes.now code (pos 0)) (plain_axes caps.now))) }
 {
     if !caps.has_kind(EV_ABS) {
         return Ok(());
     }
     text.push_str("axes")?;
-    push_axis_entries(text, caps, axes)?;
+    push_axis_entries(text, caps, axes, 0, ABS_MT_SLOT)?;
+    push_axis_entries(text, caps, axes, ABS_MT_TOOL_Y + 1, ABS_MAX + 1)?;
     text.push_str("\n")?;
     Ok(())
 }
 
-fn push_axis_entries(text: &mut Page, caps: &Caps, axes: &[i32; 64]) -> Result<(), NoMemory>
+// Appends the values of the supported axes from `first` to before `end`.
+fn push_axis_entries(
+    text: &mut Page,
+    caps: &Caps,
+    axes: &[i32; 64],
+    first: u16,
+    end: u16,
+) -> Result<(), NoMemory>
+    requires order { first ≤ end }
+    requires axes { end ≤ 64 }
     ensures pushed { OnOk result
-        (text.new ≡ text.old ++ axes_text caps.now axes.now) }
+        (text.new
+        ≡ text.old
+        ++ values_text (λ code. slice_index_or axes.now code (pos 0))
+        (axes_among caps.now first (end - first))) }
 {
-    for code in 0..64u16 {
+    for code in first..end {
         push_axis_entry(text, caps, axes, code)?;
     }
     Ok(())
@@ -85,21 +106,14 @@ fn push_axis_entry(
 ) -> Result<(), NoMemory>
     requires code { code < 64 }
     ensures pushed { OnOk result
-        (text.new ≡ text.old ++ axis_entry caps.now axes.now code) }
+        (text.new
+        ≡ text.old ++ axis_entry caps.now (λ code. slice_index_or axes.now code (pos 0)) code) }
 {
-    if caps.supports(EV_ABS, code) && !is_multi_touch_code(code) {
-        push_spaced_value(text, code, axes[usize::from(code)])
+    if caps.supports(EV_ABS, code) {
+        push_value(text, code, axes[usize::from(code)])
     } else {
         Ok(())
     }
-}
-
-fn push_spaced_value(text: &mut Page, code: u16, value: i32) -> Result<(), NoMemory>
-    ensures pushed { OnOk result
-        (text.new ≡ text.old ++ codes " " ++ value_text code value) }
-{
-    text.push_str(" ")?;
-    push_value(text, code, value)
 }
 
 #[tactic(auto, unfolding(crate::specs::Views::slots_text))]
@@ -115,10 +129,9 @@ fn push_slots(text: &mut Page, caps: &Caps, view: &View) -> Result<(), NoMemory>
     push_slot_lines(text, caps, &view.cells)
 }
 
-#[tactic(auto, unfolding(crate::specs::Views::current_line))]
 fn push_current(text: &mut Page, slot: i32) -> Result<(), NoMemory>
     ensures pushed { OnOk result
-        (text.new ≡ text.old ++ current_line slot) }
+        (text.new ≡ text.old ++ (codes "current " ++ (signed_decimal slot ++ LINE_FEED))) }
 {
     text.push_str("current ")?;
     push_signed(text, slot)?;
@@ -155,7 +168,9 @@ fn push_slot_line(text: &mut Page, caps: &Caps, cells: &Cells, slot: u32) -> Res
 fn push_slot_entries(text: &mut Page, caps: &Caps, cells: &Cells, slot: u32) -> Result<(), NoMemory>
     requires slot { slot < slot_count cells.now }
     ensures pushed { OnOk result
-        (text.new ≡ text.old ++ slot_text caps.now cells.now slot) }
+        (text.new
+        ≡ text.old
+        ++ values_text (cell_of cells.now slot) (axes_among caps.now ABS_MT_TOUCH_MAJOR SLOT_VALUES)) }
 {
     for code in ABS_MT_TOUCH_MAJOR..ABS_MT_TOOL_Y + 1 {
         push_slot_entry(text, caps, cells, slot, code)?;
@@ -174,10 +189,10 @@ fn push_slot_entry(
     requires code { is_slot_code code ≡ true }
     ensures pushed { OnOk result
         (text.new
-        ≡ text.old ++ slot_entry caps.now cells.now slot code) }
+        ≡ text.old ++ axis_entry caps.now (cell_of cells.now slot) code) }
 {
     if caps.supports(EV_ABS, code) {
-        push_spaced_value(text, code, cells.value(slot, code))
+        push_value(text, code, cells.value(slot, code))
     } else {
         Ok(())
     }

@@ -1,6 +1,7 @@
 //! The whole report.
-ghost use Rattle.std.specs.Prelude.{◌≡◌, ◌++◌, IfOk, OnOk, slice_get, Some};
-ghost use Rattle.inp_report.specs.Report.{device_line, step_line, history_text, run_text, report};
+ghost use Rattle.std.specs.Prelude.{◌≡◌, ◌++◌, IfOk, OnOk, flat_map};
+ghost use Rattle.std.specs.List.{enumerate_from};
+ghost use Rattle.inp_report.specs.Report.{device_line, step_line, run_text, report};
 ghost use Rattle.inp_script.specs.Runs.{AreRunsOf, IsRunOf};
 
 use crate::jobs::push_job;
@@ -108,7 +109,8 @@ pub(crate) fn push_device(text: &mut Page, name: &Name, steps: usize) -> Result<
 
 fn push_history(text: &mut Page, history: &[Step]) -> Result<(), NoMemory>
     ensures pushed { OnOk result
-        (text.new ≡ text.old ++ history_text history.now) }
+        (text.new
+        ≡ text.old ++ flat_map step_line (enumerate_from 0 history.now)) }
 {
     for (place, step) in history.iter().enumerate() {
         push_step(text, place, *step)?;

@@ -1,7 +1,9 @@
 //! How events, masks, axes, refusals and stops are written.
 ghost use Rattle.std.specs.Prelude.{◌≡◌, ◌++◌, codes, decimal, OnOk};
 ghost use Rattle.std.specs.Fmt.{signed_decimal};
-ghost use Rattle.inp_report.specs.Words.{event_text, mask_text, refusal_text, axis_text, value_text, stop_text};
+ghost use Rattle.inp_model.specs.declared.event.TheConstants.{EV_ABS};
+ghost use Rattle.inp_texts.specs.Texts.{kind_text, code_text, bits_text};
+ghost use Rattle.inp_report.specs.Words.{event_text, refusal_text, axis_numbers, stop_text};
 
 use inp_model::{AxisInfo, EV_ABS, Event, NoMemory, Refusal};
 use inp_script::Stop;
@@ -41,10 +43,11 @@ pub(crate) fn push_event(text: &mut Page, event: Event) -> Result<(), NoMemory>
 }
 
 /// Appends the type, the word and the bits of a mask that is set.
-#[tactic(auto, unfolding(crate::specs::Words::mask_text))]
 pub(crate) fn push_mask(text: &mut Page, kind: u16, word: u16, bits: u64) -> Result<(), NoMemory>
     ensures pushed { OnOk result
-        (text.new ≡ text.old ++ mask_text kind word bits) }
+        (text.new
+        ≡ text.old
+        ++ (kind_text kind ++ (codes " " ++ (decimal word ++ (codes " " ++ bits_text bits))))) }
 {
     push_kind(text, kind)?;
     push_numbered(text, " ", u64::from(word))?;
@@ -79,10 +82,10 @@ fn refusal_word(why: Refusal) -> &'static str
     }
 }
 
-/// Appends the numbers of an axis.
-#[tactic(auto, unfolding(crate::specs::Words::axis_text))]
+/// Appends the numbers of an axis, each after a space.
+#[tactic(auto, unfolding(crate::specs::Words::axis_numbers))]
 pub(crate) fn push_axis(text: &mut Page, info: AxisInfo) -> Result<(), NoMemory>
-    ensures pushed { OnOk result (text.new ≡ text.old ++ axis_text info) }
+    ensures pushed { OnOk result (text.new ≡ text.old ++ axis_numbers info) }
 {
     let AxisInfo {
         value,
@@ -94,17 +97,19 @@ pub(crate) fn push_axis(text: &mut Page, info: AxisInfo) -> Result<(), NoMemory>
     } = info;
     write!(
         text,
-        "{value} {minimum} {maximum} {fuzz} {flat} {resolution}"
+        " {value} {minimum} {maximum} {fuzz} {flat} {resolution}"
     )?;
     Ok(())
 }
 
-/// Appends an axis and its value.
-#[tactic(auto, unfolding(crate::specs::Words::value_text))]
+/// Appends an axis and its value, after a space.
 pub(crate) fn push_value(text: &mut Page, code: u16, value: i32) -> Result<(), NoMemory>
     ensures pushed { OnOk result
-        (text.new ≡ text.old ++ value_text code value) }
+        (text.new
+        ≡ text.old
+        ++ (codes " " ++ (code_text EV_ABS code ++ (codes "=" ++ signed_decimal value)))) }
 {
+    text.push_str(" ")?;
     push_code(text, EV_ABS, code)?;
     text.push_str("=")?;
     push_signed(text, value)

@@ -1,5 +1,7 @@
-use Rattle.std.proofs.Common.{append-nil, ◌*◌, sym, ◌∙◌}
-use Rattle.inp_report.specs.Words.{spaced_code, flags_text}
+use Rattle.std.proofs.Common.{append-nil, ◌*◌, ◌++◌, sym, ◌∙◌}
+use Rattle.std.specs.Prelude.{codes}
+use Rattle.inp_texts.specs.Texts.{code_text}
+use Rattle.inp_report.specs.Words.{flags_text}
 use Rattle.inp_texts.proofs.Written.{whole_more, below_rest, given_more, given_all}
 use Rattle.inp_report.proofs.bits.push_flags.Goals as goal
 
@@ -21,7 +23,7 @@ loop-code-preserved g c = record {
       below_rest (64 * g.row.W) c.in-Some.code c.loop-code.code-iterator c.next.new.self
       c.in-Some.ensures.steps c.loop-code.invariant.within;
   written =
-      given_more (spaced_code c.args.kind) _ _ _ c.loop-code.yielded c.in-Some.code
+      given_more (λ code. codes " " ++ code_text c.args.kind code) _ _ _ c.loop-code.yielded c.in-Some.code
       c.loop-code.invariant.written c.in_ok-push_spaced_code.ensures.pushed;
 }
 
@@ -30,6 +32,7 @@ pub returns : goal.returns
 unfolding flags_text
 returns g c = record {
   pushed =
-      given_all (spaced_code c.args.kind) _ _ c.loop-code.yielded c.loop-code.code-iterator _
-      c.in-None.ensures.steps.0 c.loop-code.invariant.whole c.loop-code.invariant.written;
+      given_all (λ code. codes " " ++ code_text c.args.kind code) _ _ c.loop-code.yielded
+      c.loop-code.code-iterator _ c.in-None.ensures.steps.0 c.loop-code.invariant.whole
+      c.loop-code.invariant.written;
 }

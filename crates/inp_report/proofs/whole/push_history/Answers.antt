@@ -1,4 +1,4 @@
-use Rattle.inp_report.specs.Report.{step_line, history_text}
+use Rattle.inp_report.specs.Report.{step_line}
 use Rattle.inp_texts.proofs.Written.{enumerated_more, enumerated_all}
 use Rattle.inp_report.proofs.whole.push_history.Goals as goal
 
@@ -9,7 +9,6 @@ loop-place-preserved c =
 
 -- no step is left, so all lines of the history are written
 pub returns : goal.returns
-unfolding history_text
 returns c =
     record {
       pushed =
