@@ -117,7 +117,7 @@ CountsNoEnd =
 -- a client follows a press and a release
 abbrev pub ShowsAClient : Type 0
 ShowsAClient =
-    part_text Client (codes "c") one_key (job 1 (
+    part_text one_key Client (codes "c") (job 1 (
     Call Open (Opened 0 0 128)
     ∷ Call (GetKeys 0) (Bits 1 (replicate 12 0))
     ∷ Call (Read 0 64) (Taking 6 4)

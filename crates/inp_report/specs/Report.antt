@@ -37,27 +37,27 @@ role_part role name lines stop =
 
 -- an actor's part, by its role; a joystick and an owner have no part under their device (JoyReport.antt,
 -- OwnerReport.antt)
-abbrev pub part_text : Role → List ℕ → Description → JobView → List ℕ
-part_text Source name d job = calls_text name job.sight ++ (codes " stop " ++ (stop_text job.stop ++ LINE_FEED))
-part_text Joy name d job = []
-part_text Owner name d job = []
-part_text role name d job = role_part role name (flat_map sight_line job.sight ++ view_text d job.view) job.stop
+abbrev pub part_text : Description → Role → List ℕ → JobView → List ℕ
+part_text d Source name job = calls_text name job.sight ++ (codes " stop " ++ (stop_text job.stop ++ LINE_FEED))
+part_text d Joy name job = []
+part_text d Owner name job = []
+part_text d role name job = role_part role name (flat_map sight_line job.sight ++ view_text d job.view) job.stop
 
 -- what is told of the item at a place, if there is one
 abbrev pub text_at : {X : Type 0} → (X → List ℕ) → List X → ℕ → List ℕ
 text_at text_of items place = unwrap_or (option_map text_of (slice_get items place)) []
 
--- the part of the actor that did the job
-abbrev pub job_text : List ActorText → Description → JobView → List ℕ
-job_text actors d job = text_at (λ (actor : ActorText). part_text actor.role actor.name d job) actors job.actor
+-- what is told of a job, by the role and the name of its actor
+abbrev pub job_text : (Role → List ℕ → JobView → List ℕ) → List ActorText → JobView → List ℕ
+job_text tell actors job = text_at (λ (actor : ActorText). tell actor.role actor.name job) actors job.actor
 
--- a device, a line for each step of its history where this is wanted, and the parts of its actors
-abbrev pub run_text : List ActorText → Bool → DeviceText × Run → List ℕ
-run_text actors history played =
+-- a device, a line for each step of its history where this is wanted, and what is told of its jobs
+abbrev pub run_text : List ActorText → Bool → (Description → Role → List ℕ → JobView → List ℕ) → DeviceText × Run → List ℕ
+run_text actors history tell played =
     device_line (played.0).name (length (played.1).history)
     ++ ((if history then flat_map step_line (enumerate_from 0 (played.1).history) else [])
-    ++ flat_map (job_text actors (played.0).caps) (played.1).jobs)
+    ++ flat_map (job_text (tell (played.0).caps) actors) (played.1).jobs)
 
 -- the devices in order, each with its result
 unfoldable pub report : RecordView → List Run → Bool → List ℕ
-report r runs history = flat_map (run_text r.actors history) (zip r.devices runs)
+report r runs history = flat_map (run_text r.actors history part_text) (zip r.devices runs)

@@ -1,12 +1,11 @@
 -- The summary of a record that was generated, and of its result (docs/FORMATS.md, "The summary").
-use Rattle.std.specs.Prelude.{ℕ, List, [], ◌++◌, length, codes, decimal, flat_map}
+use Rattle.std.specs.Prelude.{ℕ, false, List, [], ◌++◌, codes, decimal, flat_map}
 use Rattle.std.specs.List.{count_by, zip}
 use Rattle.std.specs.Fmt.{signed_decimal}
 use Rattle.inp_model.specs.declared.multi_touch.TheConstants.{ABS_MT_POSITION_X, ABS_MT_POSITION_Y}
+use Rattle.inp_model.specs.Description.{Description}
 use Rattle.inp_actors.specs.declared.role.Role.{Role}
 use Rattle.inp_actors.specs.declared.role.Role.TheVariants.{Source, Joy, Owner}
-use Rattle.inp_actors.specs.declared.actor_text.ActorText.{ActorText}
-use Rattle.inp_actors.specs.declared.device_text.DeviceText.{DeviceText}
 use Rattle.inp_actors.specs.Record.{RecordView}
 use Rattle.inp_script.specs.declared.run.Run.{Run}
 use Rattle.inp_script.specs.Job.{JobView}
@@ -14,7 +13,7 @@ use Rattle.inp_texts.specs.Texts.{role_text}
 use Rattle.inp_report.specs.Words.{LINE_FEED}
 use Rattle.inp_report.specs.Sights.{is_took, is_made, is_again_sight}
 use Rattle.inp_recon.specs.Cells.{cell_of}
-use Rattle.inp_report.specs.Report.{device_line, calls_text, text_at}
+use Rattle.inp_report.specs.Report.{calls_text, run_text}
 
 -- client NAME or tap NAME, took T made M again A x X y Y: what it saw is counted, and the position is that of
 -- slot 9, the last one of a generated device
@@ -33,17 +32,8 @@ brief_line Joy name job = []
 brief_line Owner name job = []
 brief_line role name job = counts_line role name job
 
--- the line of the actor that did the job
-abbrev pub job_brief : List ActorText → JobView → List ℕ
-job_brief actors job = text_at (λ (actor : ActorText). brief_line actor.role actor.name job) actors job.actor
-
--- a device and its actors
-abbrev pub run_brief : List ActorText → DeviceText × Run → List ℕ
-run_brief actors played =
-    device_line (played.0).name (length (played.1).history) ++ flat_map (job_brief actors) (played.1).jobs
-
--- make NUMBER COUNT, the two numbers of the record, and the devices in order
+-- make NUMBER COUNT, the two numbers of the record, and the devices in order, each without its history
 unfoldable pub summary : ℕ → ℕ → RecordView → List Run → List ℕ
 summary number count r runs =
     codes "make " ++ decimal number ++ codes " " ++ decimal count ++ LINE_FEED
-    ++ flat_map (run_brief r.actors) (zip r.devices runs)
+    ++ flat_map (run_text r.actors false (λ (d : Description). brief_line)) (zip r.devices runs)

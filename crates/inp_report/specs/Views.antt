@@ -31,8 +31,7 @@ slots_text d v =
     if nat_eq d.slots 0 then [] else
     codes "current " ++ (signed_decimal v.slot ++ (LINE_FEED ++ flat_map (slot_line d v.cells) (range_with_len 0 d.slots)))
 
--- what the view says of the device: the codes that are on, the axes whose values do not belong to slots, and the
--- slots
+-- what the view says: the codes that are on, the axes whose values do not belong to slots, and the slots
 unfoldable pub view_text : Description → View → List ℕ
 view_text d v =
     kind_line d EV_KEY (codes "keys" ++ flags_text EV_KEY v.keys)

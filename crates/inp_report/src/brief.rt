@@ -1,12 +1,13 @@
 //! The summary.
-ghost use Rattle.std.specs.Prelude.{◌≡◌, ◌<◌, ◌++◌, true, length, codes, decimal, IfOk, OnOk, flat_map};
+ghost use Rattle.std.specs.Prelude.{◌≡◌, ◌<◌, ◌++◌, true, false, length, codes, decimal, IfOk, OnOk, flat_map};
 ghost use Rattle.std.specs.List.{count_by, zip};
 ghost use Rattle.std.specs.Fmt.{signed_decimal};
 ghost use Rattle.inp_model.specs.declared.multi_touch.TheConstants.{ABS_MT_POSITION_X, ABS_MT_POSITION_Y};
-ghost use Rattle.inp_model.specs.Description.{is_slot_code};
+ghost use Rattle.inp_model.specs.Description.{Description, is_slot_code};
 ghost use Rattle.inp_recon.specs.Cells.{cell_of};
 ghost use Rattle.inp_report.specs.Sights.{is_took, is_made, is_again_sight};
-ghost use Rattle.inp_report.specs.Summary.{counts_line, brief_line, job_brief, run_brief, summary};
+ghost use Rattle.inp_report.specs.Report.{job_text, run_text};
+ghost use Rattle.inp_report.specs.Summary.{counts_line, brief_line, summary};
 ghost use Rattle.inp_script.specs.Runs.{AreRunsOf, IsRunOf};
 
 use crate::jobs::push_calls;
@@ -70,7 +71,8 @@ fn push_briefs(text: &mut Page, rec: &Record, runs: &Runs) -> Result<(), NoMemor
     ensures pushed { OnOk result
         (text.new
         ≡ text.old
-        ++ flat_map (run_brief rec.now.actors) (zip rec.now.devices runs.now)) }
+        ++ flat_map (run_text rec.now.actors false (λ (d : Description). brief_line))
+        (zip rec.now.devices runs.now)) }
 {
     for (index, run) in runs.as_slice().iter().enumerate() {
         let device = rec.devices().get(index);
@@ -89,7 +91,8 @@ fn push_run_brief(
     requires run { IsRunOf actors.now index device.now run.now }
     ensures pushed { OnOk result
         (text.new
-        ≡ text.old ++ run_brief actors.now (device.now, run.now)) }
+        ≡ text.old
+        ++ run_text actors.now false (λ (d : Description). brief_line) (device.now, run.now)) }
 {
     push_device(text, &device.name, run.history.len())?;
     for job in run.jobs.as_slice() {
@@ -101,7 +104,7 @@ fn push_run_brief(
 fn push_job_brief(text: &mut Page, actors: &Actors, job: &JobEnd) -> Result<(), NoMemory>
     requires actor { job.now.actor < length actors.now }
     ensures pushed { OnOk result
-        (text.new ≡ text.old ++ job_brief actors.now job.now) }
+        (text.new ≡ text.old ++ job_text brief_line actors.now job.now) }
 {
     push_brief(text, actors.get(job.actor() as usize), job)
 }

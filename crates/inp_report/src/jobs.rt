@@ -25,7 +25,7 @@ pub(crate) fn push_job(
     requires actor { job.now.actor < length actors.now }
     requires view { IsSizedFor caps.now.slots job.now.view }
     ensures pushed { OnOk result
-        (text.new ≡ text.old ++ job_text actors.now caps.now job.now) }
+        (text.new ≡ text.old ++ job_text (part_text caps.now) actors.now job.now) }
 {
     push_part(text, actors.get(job.actor() as usize), caps, job)
 }
@@ -34,7 +34,7 @@ fn push_part(text: &mut Page, actor: &ActorText, caps: &Caps, job: &JobEnd) -> R
     requires view { IsSizedFor caps.now.slots job.now.view }
     ensures pushed { OnOk result
         (text.new
-        ≡ text.old ++ part_text actor.now.role actor.now.name caps.now job.now) }
+        ≡ text.old ++ part_text caps.now actor.now.role actor.now.name job.now) }
 {
     match actor.role {
         Role::Source => {

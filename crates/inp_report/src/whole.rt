@@ -1,7 +1,7 @@
 //! The whole report.
 ghost use Rattle.std.specs.Prelude.{◌≡◌, ◌++◌, IfOk, OnOk, flat_map};
 ghost use Rattle.std.specs.List.{enumerate_from};
-ghost use Rattle.inp_report.specs.Report.{device_line, step_line, run_text, report};
+ghost use Rattle.inp_report.specs.Report.{device_line, step_line, part_text, run_text, report};
 ghost use Rattle.inp_script.specs.Runs.{AreRunsOf, IsRunOf};
 
 use crate::jobs::push_job;
@@ -83,7 +83,7 @@ fn push_run(
     requires run { IsRunOf actors.now index device.now run.now }
     ensures pushed { OnOk result
         (text.new
-        ≡ text.old ++ run_text actors.now history (device.now, run.now)) }
+        ≡ text.old ++ run_text actors.now history part_text (device.now, run.now)) }
 {
     push_device(text, &device.name, run.history.len())?;
     if history {
