@@ -1,5 +1,6 @@
 -- The command of the program, in clap's own words: which words it takes, and which texts it finds in them.
-use Rattle.std.specs.Prelude.{◌≡◌, Bool, true, false, List, Option, Some, None, codes}
+use Rattle.std.specs.Prelude.{◌≡◌, Bool, true, false, List, [], ◌∷◌, Option, Some, None, codes}
+use Rattle.std.specs.List.{fold}
 use Rattle.std.specs.Str.{bytes_eq}
 use Rattle.clap.specs.Walk.{Rule, Text, is_empty, first_of}
 use Rattle.clap.specs.Simple.{App, matches_of, new_app, new_rule, on_top, with_rule}
@@ -16,25 +17,16 @@ flag name = record (new_rule name) { long = Some name; action = Some SetTrue }
 abbrev pub option : Text → Rule
 option name = record (new_rule name) { long = Some name; action = Some Set }
 
--- the one argument that has no name on the command line
-abbrev pub file : Rule
-file = new_rule (codes "FILE")
-
 -- no argument yet; the words begin after the program's name, and `--help` is no option
 abbrev pub no_arguments : App
 no_arguments = on_top (λ s. record s { no_binary_name = true; disable_help_flag = true }) (new_app (codes "inputplay"))
 
--- the flags `--threads`, `--history` and `--migrate`
-abbrev pub with_flags : App
-with_flags = with_rule (with_rule (with_rule no_arguments (flag (codes "threads"))) (flag (codes "history"))) (flag (codes "migrate"))
-
--- the options `--idle`, `--make` and `--count`
-abbrev pub with_options : App
-with_options = with_rule (with_rule (with_rule with_flags (option (codes "idle"))) (option (codes "make"))) (option (codes "count"))
-
--- these, and FILE
+-- Its arguments are flags, options and FILE, which has no name on the command line.
 unfoldable pub command : App
-command = with_rule with_options file
+command =
+    fold with_rule no_arguments
+    (flag (codes "threads") ∷ flag (codes "history") ∷ flag (codes "migrate")
+    ∷ option (codes "idle") ∷ option (codes "make") ∷ option (codes "count") ∷ new_rule (codes "FILE") ∷ [])
 
 -- the command takes the words
 unfoldable pub is_taken : List Text → Bool

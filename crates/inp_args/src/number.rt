@@ -1,8 +1,8 @@
 //! Numbers among words.
-ghost use Rattle.std.specs.Prelude.{◌≡◌};
+ghost use Rattle.std.specs.Prelude.{◌≡◌, ◌≤◌, IfSome};
 ghost use Rattle.std.specs.Option.{option_copied};
 ghost use Rattle.inp_args.specs.Number.{number_of};
-ghost use Rattle.inp_args.specs.Request.{count_of, idle_number, number_up_to};
+ghost use Rattle.inp_args.specs.Request.{number_or};
 
 /// The greatest count of frames (this project's choice).
 const COUNT_MAX: u32 = 10_000;
@@ -25,28 +25,29 @@ pub(crate) fn number_of(text: &str) -> Option<u32>
 
 // The count that a text is, or the default where no text is given.
 pub(crate) fn count_of(text: Option<&str>) -> Option<u32>
-    ensures { result ≡ count_of (option_copied text.entry) }
+    ensures number { result ≡ number_or 100 10000 (option_copied text.entry) }
+    ensures range { IfSome result (λ n. (1 ≤ n) × (n ≤ COUNT_MAX)) }
 {
-    match text {
-        Some(text) => number_up_to(text, COUNT_MAX),
-        None => Some(COUNT_DEFAULT),
-    }
+    number_or(COUNT_DEFAULT, COUNT_MAX, text)
 }
 
 // How many reads in a row may find nothing, by a text, or the default where no text is given.
 pub(crate) fn idle_number(text: Option<&str>) -> Option<u32>
-    ensures { result ≡ idle_number (option_copied text.entry) }
+    ensures number { result ≡ number_or 1000000 1000000000 (option_copied text.entry) }
+    ensures range { IfSome result (λ n. (1 ≤ n) × (n ≤ IDLE_MAX)) }
 {
-    match text {
-        Some(text) => number_up_to(text, IDLE_MAX),
-        None => Some(IDLE_DEFAULT),
-    }
+    number_or(IDLE_DEFAULT, IDLE_MAX, text)
 }
 
-// The number that a text is, where it is one from 1 to `most`.
-fn number_up_to(text: &str, most: u32) -> Option<u32>
-    ensures { result ≡ number_up_to most text.now }
+// The number that a text is, where it is one from 1 to `most`, or `usual` where no text is given.
+fn number_or(usual: u32, most: u32, text: Option<&str>) -> Option<u32>
+    requires usual { (1 ≤ usual) × (usual ≤ most) }
+    ensures number { result ≡ number_or usual most (option_copied text.entry) }
+    ensures range { IfSome result (λ n. (1 ≤ n) × (n ≤ most)) }
 {
+    let Some(text) = text else {
+        return Some(usual);
+    };
     let number = number_of(text)?;
     if number < 1 || number > most {
         return None;

@@ -1,8 +1,8 @@
 //! The parser of words.
-ghost use Rattle.std.specs.Prelude.{◌≡◌, None, Some, Err, map, string_bytes, IfOk};
+ghost use Rattle.std.specs.Prelude.{◌≡◌, ◌≤◌, ℕ, List, Option, None, Some, Err, true, false, map, string_bytes, IfOk, IfSome};
 ghost use Rattle.std.specs.Option.{option_copied};
 ghost use Rattle.inp_args.specs.Command.{is_given};
-ghost use Rattle.inp_args.specs.Request.{IsInRange, make_request, migration_of, request_of, requested};
+ghost use Rattle.inp_args.specs.Request.{IsInRange, number_or, request_of, requested};
 ghost use Rattle.inp_args.specs.declared.words_fault.WordsFault.{WordsFault};
 
 use crate::command::matches_in;
@@ -31,11 +31,11 @@ pub fn read_words(alloc: Global, words: &[String]) -> Result<Request, WordsFault
     let bound = matches.get_str("idle");
     let history = is_given(matches.get_str("history"));
     let threads = is_given(matches.get_str("threads"));
-    let idle = idle_number(bound).ok_or(WordsFault::Usage)?;
+    let idle = threads.then_some(idle_number(bound).ok_or(WordsFault::Usage)?);
     if is_given(matches.get_str("migrate")) {
-        return migration_of(alloc, file, number, count, bound, history, threads);
+        return migration_of(alloc, file, number, count, bound, history, idle);
     }
-    request_of(alloc, file, number, count, history, threads.then_some(idle))
+    request_of(alloc, file, number, count, history, idle)
 }
 
 // Whether a flag was given, by its text.
@@ -56,24 +56,25 @@ fn migration_of(
     count: Option<&str>,
     bound: Option<&str>,
     history: bool,
-    threads: bool,
+    idle: Option<u32>,
 ) -> Result<Request, WordsFault>
-    ensures request { IfOk result (λ request. migration_of (option_copied file.entry)
+    ensures request { IfOk result (λ request. request_of (option_copied file.entry)
         (option_copied number.entry) (option_copied count.entry) (option_copied bound.entry)
-        history threads ≡ Some request) }
-    ensures usage { result ≡ Err WordsFault.Usage → migration_of (option_copied file.entry)
+        true history idle ≡ Some request) }
+    ensures usage { result ≡ Err WordsFault.Usage → request_of (option_copied file.entry)
         (option_copied number.entry) (option_copied count.entry) (option_copied bound.entry)
-        history threads ≡ None }
+        true history idle ≡ None }
+    ensures range { IfOk result IsInRange }
 {
     match (file, number, count, bound) {
-        (Some(file), None, None, None) if !history && !threads => Ok(Request::Migrate {
+        (Some(file), None, None, None) if !history && idle.is_none() => Ok(Request::Migrate {
             file: FileName::new(String::from_str(alloc, file)?),
         }),
         _ => Err(WordsFault::Usage),
     }
 }
 
-// What the texts of the arguments ask for without it.
+// What the texts of the arguments ask for without it, whatever the text of `--idle` is.
 fn request_of(
     alloc: Global,
     file: Option<&str>,
@@ -82,10 +83,14 @@ fn request_of(
     history: bool,
     idle: Option<u32>,
 ) -> Result<Request, WordsFault>
-    ensures request { IfOk result (λ request. request_of (option_copied file.entry)
-        (option_copied number.entry) (option_copied count.entry) history idle ≡ Some request) }
-    ensures usage { result ≡ Err WordsFault.Usage → request_of (option_copied file.entry)
-        (option_copied number.entry) (option_copied count.entry) history idle ≡ None }
+    requires bound { IfSome idle (λ n. (1 ≤ n) × (n ≤ 1000000000)) }
+    ensures request { IfOk result (λ request. (bound : Option (List ℕ)) → request_of
+        (option_copied file.entry) (option_copied number.entry) (option_copied count.entry) bound
+        false history idle ≡ Some request) }
+    ensures usage { result ≡ Err WordsFault.Usage → (bound : Option (List ℕ)) → request_of
+        (option_copied file.entry) (option_copied number.entry) (option_copied count.entry) bound
+        false history idle ≡ None }
+    ensures range { IfOk result IsInRange }
 {
     match (file, number, count) {
         (Some(file), None, None) => Ok(Request::Play {
@@ -94,18 +99,20 @@ fn request_of(
             idle,
         }),
         (None, Some(number), count) if !history && idle.is_none() => {
-            make_request(number_of(number), count_of(count)).ok_or(WordsFault::Usage)
+            make_request(number, count).ok_or(WordsFault::Usage)
         }
         _ => Err(WordsFault::Usage),
     }
 }
 
-// A record is to be made, where both numbers are there.
-fn make_request(number: Option<u32>, count: Option<u32>) -> Option<Request>
-    ensures { result ≡ make_request number count }
+// A record is to be made, where both texts are numbers.
+fn make_request(number: &str, count: Option<&str>) -> Option<Request>
+    ensures made { result
+        ≡ request_of None (Some number.now) (option_copied count.entry) None false false None }
+    ensures range { IfSome result IsInRange }
 {
     Some(Request::Make {
-        number: number?,
-        count: count?,
+        number: number_of(number)?,
+        count: count_of(count)?,
     })
 }

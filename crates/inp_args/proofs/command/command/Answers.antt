@@ -1,8 +1,18 @@
-use Rattle.std.proofs.Common.{◌≡◌, ◌∙◌, ap, ap₂, codes, true}
+use Rattle.std.proofs.Common.{◌≡◌, ◌∙◌, ap, ap₂, codes, true, [], ◌∷◌}
+use Rattle.std.specs.List.{fold}
 use Rattle.std.proofs.lemmas.Result.{IfOk-weaker}
-use Rattle.clap.specs.Simple.{Shape, app_of, app_of_fields, new_app, on_top, with_rule}
-use Rattle.inp_args.specs.Command.{command, flag, no_arguments, option, with_flags, with_options}
+use Rattle.clap.specs.Simple.{App, Shape, app_of, app_of_fields, new_app, on_top, with_rule}
+use Rattle.inp_args.specs.Command.{command, flag, no_arguments, option}
 use Rattle.inp_args.proofs.command.command.Goals as goal
+
+-- the command with the flags, and with the options too
+abbrev with_flags : App
+with_flags = fold with_rule no_arguments
+    (flag (codes "threads") ∷ flag (codes "history") ∷ flag (codes "migrate") ∷ [])
+
+abbrev with_options : App
+with_options = fold with_rule with_flags
+    (option (codes "idle") ∷ option (codes "make") ∷ option (codes "count") ∷ [])
 
 pub returns : goal.returns
 unfolding command
