@@ -14,7 +14,8 @@ use Rattle.inp_actors.specs.declared.command.Command.TheVariants.{Open, Follow}
 use Rattle.inp_actors.specs.Command.{is_source, is_client, is_owner, is_reading, is_command_of, is_in_range}
 use Rattle.inp_actors.specs.Command.{stream_of}
 use Rattle.inp_actors.specs.Record.{streams_of, IsRecord}
-use Rattle.inp_make.specs.Generated.{actors, fast, mid, slow, line, frame_events, injected, follows}
+use Rattle.inp_make.specs.declared.frame.TheConstants.{FAST, MID, SLOW}
+use Rattle.inp_make.specs.Generated.{actors, line, frame_events, injected, follows}
 use Rattle.inp_make.specs.Generated.{frame_lines, open_lines, lines, generated}
 use Rattle.inp_make.proofs.Counts.{length-lines}
 
@@ -82,33 +83,33 @@ client_kept number does few is range stream =
 
 opens_kept : AllByRecursion IsKept open_lines
 opens_kept = (
-  client_kept fast Open (omega arith) (λ actor is. of_actor _ actor is_reading is refl) (λ role. refl) refl,
+  client_kept FAST Open (omega arith) (λ actor is. of_actor _ actor is_reading is refl) (λ role. refl) refl,
   (
-    client_kept mid Open (omega arith) (λ actor is. of_actor _ actor is_reading is refl) (λ role. refl) refl,
+    client_kept MID Open (omega arith) (λ actor is. of_actor _ actor is_reading is refl) (λ role. refl) refl,
     (
-      client_kept slow Open (omega arith) (λ actor is. of_actor _ actor is_reading is refl)
+      client_kept SLOW Open (omega arith) (λ actor is. of_actor _ actor is_reading is refl)
           (λ role. refl) refl,
       tt,
     ),
   ),
 )
 
-fast_kept : IsKept (line fast Follow)
+fast_kept : IsKept (line FAST Follow)
 fast_kept =
-    client_kept fast Follow (omega arith) (λ actor is. of_actor _ actor is_client is refl) (λ role. refl) refl
+    client_kept FAST Follow (omega arith) (λ actor is. of_actor _ actor is_client is refl) (λ role. refl) refl
 
-mid_kept : IsKept (line mid Follow)
+mid_kept : IsKept (line MID Follow)
 mid_kept =
-    client_kept mid Follow (omega arith) (λ actor is. of_actor _ actor is_client is refl) (λ role. refl) refl
+    client_kept MID Follow (omega arith) (λ actor is. of_actor _ actor is_client is refl) (λ role. refl) refl
 
-slow_kept : IsKept (line slow Follow)
+slow_kept : IsKept (line SLOW Follow)
 slow_kept =
-    client_kept slow Follow (omega arith) (λ actor is. of_actor _ actor is_client is refl) (λ role. refl) refl
+    client_kept SLOW Follow (omega arith) (λ actor is. of_actor _ actor is_client is refl) (λ role. refl) refl
 
 follows_kept : (frame : ℕ) → AllByRecursion IsKept (follows frame)
 follows_kept frame = (fast_kept, tenth (nat_eq (frame % 10) 9))
   where
-    tenth : (b : Bool) → AllByRecursion IsKept (cond b (line mid Follow ∷ []) [])
+    tenth : (b : Bool) → AllByRecursion IsKept (cond b (line MID Follow ∷ []) [])
     tenth true = (mid_kept, tt)
     tenth false = tt
 
@@ -122,7 +123,7 @@ frame_kept number frame within =
 lines_kept : (number count : ℕ) → count ≤ 10000 → AllByRecursion IsKept (lines number count)
 unfolding lines
 lines_kept number count few =
-    all-append (open_lines ++ flat_map (frame_lines number) (range_with_len 0 count)) (line slow Follow ∷ [])
+    all-append (open_lines ++ flat_map (frame_lines number) (range_with_len 0 count)) (line SLOW Follow ∷ [])
     (all-append open_lines (flat_map (frame_lines number) (range_with_len 0 count)) opens_kept
     (all-range (frame_lines number) 10000 0 count (omega arith) (λ k within. frame_kept number k within)))
     (slow_kept, tt)

@@ -3,8 +3,9 @@ use Rattle.std.specs.Prelude.{◌≡◌, ℕ, ◌+◌, ◌*◌, ◌/◌, ◌<◌
 use Rattle.inp_model.specs.declared.event.Event.{Event}
 use Rattle.inp_model.specs.Description.{supports, ring}
 use Rattle.inp_actors.specs.declared.line.Line.{Line}
-use Rattle.inp_actors.specs.declared.command.Command.TheVariants.{Follow}
-use Rattle.inp_make.specs.Generated.{pad, x_of, y_of, frame_moment, follows, line, finger, fast, mid, slow, finger_events, frame_events, lines}
+use Rattle.inp_actors.specs.declared.command.Command.TheVariants.{Follow, Event as Injected}
+use Rattle.inp_make.specs.declared.frame.TheConstants.{FINGER, FAST, MID, SLOW}
+use Rattle.inp_make.specs.Generated.{pad, injected, follows, line, finger_events, frame_events, lines}
 
 -- how many lines an actor has
 abbrev pub line_count : ℕ → List Line → ℕ
@@ -21,7 +22,9 @@ HasAxes =
 
 -- where the last finger is in the 20th frame of number 7, and in the 5000th
 abbrev pub HasPositions : Type 0
-HasPositions = (x_of 7 19 9 ≡ 258) × (y_of 7 19 9 ≡ 370) × (x_of 7 4999 9 ≡ 2350) × (y_of 7 4999 9 ≡ 1902)
+HasPositions =
+    (finger_events 7 19 9 ≡ event 3 47 9 ∷ event 3 53 258 ∷ event 3 54 370 ∷ [])
+    × (finger_events 7 4999 9 ≡ event 3 47 9 ∷ event 3 53 2350 ∷ event 3 54 1902 ∷ [])
 
 -- finger 1 in the first two frames of number 4090, where its x wraps round
 abbrev pub HasEvents : Type 0
@@ -39,11 +42,13 @@ HasFrames =
 
 -- `mid` reads after the tenth frame, and not after the ninth
 abbrev pub HasFollows : Type 0
-HasFollows = (follows 8 ≡ line fast Follow ∷ []) × (follows 9 ≡ line fast Follow ∷ line mid Follow ∷ [])
+HasFollows = (follows 8 ≡ line FAST Follow ∷ []) × (follows 9 ≡ line FAST Follow ∷ line MID Follow ∷ [])
 
--- the moments of the first frame and of the 20th
+-- the source injects an event of the first frame, and one of the 20th, at these moments
 abbrev pub HasMoments : Type 0
-HasMoments = (frame_moment 0 ≡ 10000) × (frame_moment 19 ≡ 200000)
+HasMoments =
+    (injected 0 (event 1 330 1) ≡ line 0 (Injected 10000 1 330 (pos 1)))
+    × (injected 19 (event 0 0 0) ≡ line 0 (Injected 200000 0 0 (pos 0)))
 
 -- the first frame has 42 events, and each later one 31
 abbrev pub CountsEvents : Type 0
@@ -53,5 +58,5 @@ CountsEvents =
 -- how many lines each actor has; in 20 frames the source has 631
 abbrev pub CountsLines : Type 0
 CountsLines = (number count : ℕ) → 1 ≤ count
-    → (line_count finger (lines number count) ≡ 31 * count + 11) × (line_count fast (lines number count) ≡ count + 1)
-    × (line_count mid (lines number count) ≡ count / 10 + 1) × (line_count slow (lines number count) ≡ 2)
+    → (line_count FINGER (lines number count) ≡ 31 * count + 11) × (line_count FAST (lines number count) ≡ count + 1)
+    × (line_count MID (lines number count) ≡ count / 10 + 1) × (line_count SLOW (lines number count) ≡ 2)

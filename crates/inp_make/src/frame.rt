@@ -1,7 +1,8 @@
 //! The lines of a frame.
-ghost use Rattle.std.specs.Prelude.{◌≡◌, ◌+◌, ◌%◌, [], ◌∷◌, ◌++◌, map, flat_map, OnOk};
+ghost use Rattle.std.specs.Prelude.{◌≡◌, ◌+◌, ◌*◌, [], ◌∷◌, ◌++◌, map, flat_map, OnOk};
 ghost use Rattle.std.specs.List.{range_with_len};
-ghost use Rattle.inp_make.specs.Generated.{x_of, y_of, value_event, contact, finger_events, press, touches, frame_events, frame_moment, injected, follows, frame_lines, finger, fast, mid, line};
+ghost use Rattle.inp_model.specs.Raw.{key_event};
+ghost use Rattle.inp_make.specs.Generated.{position, value_event, at_first, finger_events, touches, frame_events, injected, follows, frame_lines, line};
 
 use crate::BTN_TOUCH;
 use inp_actors::{Command, Line, Lines};
@@ -47,7 +48,8 @@ const REPORT: Event = Event {
 
 // Presses the button, in the first frame.
 fn push_press(lines: &mut Lines, frame: u32) -> Result<(), NoMemory>
-    ensures { OnOk result (lines.new ≡ lines.old ++ map (injected frame) (press frame)) }
+    ensures { OnOk result
+        (lines.new ≡ lines.old ++ map (injected frame) (at_first frame (key_event BTN_TOUCH 1))) }
 {
     if frame != 0 {
         return Ok(());
@@ -91,7 +93,8 @@ fn push_finger(lines: &mut Lines, number: u32, frame: u32, finger: u16) -> Resul
 
 // Begins the contact of a finger, in the first frame.
 fn push_contact(lines: &mut Lines, frame: u32, finger: u16) -> Result<(), NoMemory>
-    ensures { OnOk result (lines.new ≡ lines.old ++ map (injected frame) (contact frame finger)) }
+    ensures { let contact = value_event ABS_MT_TRACKING_ID finger in
+        OnOk result (lines.new ≡ lines.old ++ map (injected frame) (at_first frame contact)) }
 {
     if frame != 0 {
         return Ok(());
@@ -143,21 +146,21 @@ fn value_event(code: u16, value: u16) -> Event
 
 // Where a finger is in a frame, from the left.
 fn x_of(number: u32, frame: u32, finger: u16) -> u16
-    ensures { result ≡ x_of number frame finger }
+    ensures { result ≡ position (number + 7 * frame + 13 * finger) }
 {
     position(u64::from(number) + 7 * u64::from(frame) + 13 * u64::from(finger))
 }
 
 // Where a finger is in a frame, from the top.
 fn y_of(number: u32, frame: u32, finger: u16) -> u16
-    ensures { result ≡ y_of number frame finger }
+    ensures { result ≡ position (number + 11 * frame + 17 * finger) }
 {
     position(u64::from(number) + 11 * u64::from(frame) + 17 * u64::from(finger))
 }
 
 // A position after a way, which wraps round: 1 to 4096.
 fn position(way: u64) -> u16
-    ensures { result ≡ way % 4096 + 1 }
+    ensures { result ≡ position way }
 {
     (way % 4096 + 1) as u16
 }

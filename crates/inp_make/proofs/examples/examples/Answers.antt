@@ -9,6 +9,10 @@ pub returns-clause-axes : goal.returns-clause-axes
 unfolding pad
 returns-clause-axes c = (refl, refl, refl, refl, refl, refl, refl)
 
+pub returns-clause-positions : goal.returns-clause-positions
+unfolding finger_events
+returns-clause-positions c = (refl, refl)
+
 pub returns-clause-events : goal.returns-clause-events
 unfolding finger_events
 returns-clause-events c = (refl, refl)
