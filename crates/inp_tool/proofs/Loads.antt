@@ -14,10 +14,10 @@ use Rattle.inp_record.specs.Stream.{events_at, stream_at, with_stream}
 use Rattle.inp_tool.specs.declared.no_record.NoRecord.{NoRecord}
 use Rattle.inp_tool.specs.declared.no_record.NoRecord.TheVariants.{Unread, TooLong, Refused, NoMemory}
 use Rattle.inp_tool.specs.Edge.{InputView, Reads}
-use Rattle.inp_tool.specs.Streams.{StreamFile, file_of, stream_files, events_in, HoldEvents}
-use Rattle.inp_tool.specs.RecordFile.{IsRead, AreLoaded, IsAtStream}
+use Rattle.inp_tool.specs.Streams.{StreamFile, file_of, stream_files, events_in}
+use Rattle.inp_tool.specs.RecordFile.{IsRead, AreLoaded}
 use Rattle.inp_tool.specs.LoadedStreams.{TakesFiles, IsPassedOver, IsTaken, IsDone, CannotDo, IsLoadedTo}
-use Rattle.inp_tool.specs.LoadedStreams.{AreStreamsLoaded, CannotFinish}
+use Rattle.inp_tool.specs.LoadedStreams.{IsAtStream, AreStreamsLoaded, CannotFinish}
 use Rattle.inp_tool.proofs.Spans.{span, AreToldAlike, are_read_on, are_read_push, are_read_length}
 use Rattle.inp_tool.proofs.Spans.{is_read_from, is_last_push, is_unread_from, is_too_long_from, ran_out_from}
 use Rattle.inp_tool.proofs.Spans.{is_read_last_from}
@@ -38,22 +38,6 @@ files_after : (parsed : RecordView) (line : ℕ) (files : List StreamFile) → T
 files_after parsed line files h =
     let found = line_found (λ (l : Line). file_of l.command) (slice_get parsed.lines line) files h in
     rw (files_more parsed.lines line found.0 found.1, found.2)
-
--- the events of one more stream
-events_more : (files : List StreamFile) (contents : List (List ℕ)) (streams : List (List Stamped))
-    (file : StreamFile) (bytes : List ℕ) (stamps : List Stamped) → HoldEvents files contents streams
-    → events_in file bytes ≡ Some stamps
-    → HoldEvents (files ++ file ∷ []) (contents ++ bytes ∷ []) (streams ++ stamps ∷ [])
-events_more [] [] [] file bytes stamps all one = (one, tt)
-events_more (f ∷ files) (b ∷ contents) (s ∷ streams) file bytes stamps all one =
-    (all.0, events_more files contents streams file bytes stamps all.1 one)
-events_more files contents streams file bytes stamps all one = absurd all
-
-same_length : (files : List StreamFile) (contents : List (List ℕ)) (streams : List (List Stamped))
-    → HoldEvents files contents streams → length contents ≡ length streams
-same_length [] [] [] all = refl
-same_length (f ∷ files) (b ∷ contents) (s ∷ streams) all = ap suc (same_length files contents streams all.1)
-same_length files contents streams all = absurd all
 
 -- the events that a line takes are those that its file holds
 events_at-file : (r : RecordView) (line : ℕ) (file : StreamFile) (bytes : List ℕ)
@@ -91,22 +75,12 @@ stream_found parsed line file is h =
 
 module _ (files : Option (List File)) (before middle after : InputView) (told : AreToldAlike middle after)
     (parsed mid : RecordView) (line : ℕ) where
-  -- the streams that were loaded stay so
-  loaded_on : (contents : List (List ℕ)) (streams : List (List Stamped))
-      → AreLoaded (IsRead (span files before middle)) (files_to parsed line) contents streams
-      → AreLoaded (IsRead (span files before after)) (files_to parsed line) contents streams
-  loaded_on contents streams h =
-      record {
-        read = are_read_on files before middle after told (files_to parsed line) contents h.read;
-        stamps = h.stamps;
-      }
-
   pub is_at_stream : IsLoadedTo (span files before middle) parsed line mid → (file : StreamFile)
       → TakesFiles mid line (file ∷ []) → IsAtStream (span files before after) parsed line file
   is_at_stream h file takes = record {
     contents = h.contents;
     streams = h.streams;
-    loaded = loaded_on h.contents h.streams h.loaded;
+    loaded = are_read_on files before middle after told (files_to parsed line) h.contents h.streams h.loaded;
     here = takes_parsed parsed mid line (file ∷ []) (rw h.whole) takes;
   }
 
@@ -142,8 +116,7 @@ module _ (files : Option (List File)) (before middle after : InputView) (told : 
   whole_more new is h file stamps takes e =
       let found = stream_found parsed line file is takes in
       let k : length (files_to parsed line) ≡ length h.streams =
-      are_read_length (span files before middle) (files_to parsed line) h.contents h.loaded.read
-      ∙ same_length (files_to parsed line) h.contents h.streams h.loaded.stamps in
+      are_read_length (span files before middle) (files_to parsed line) h.contents h.streams h.loaded in
       let room : length h.streams < length parsed.streams = rw k at found.1 in
       let at : stream_at mid line ≡ Some (length h.streams) = rw (h.whole, found.0, k) in
       rw (e, at, h.whole, put_stream h.streams parsed.streams stamps room)
@@ -157,22 +130,20 @@ module _ (files : Option (List File)) (before middle after : InputView) (told : 
       let Q : List StreamFile → Type 0 =
       λ fs. AreLoaded (IsRead (span files before after)) fs (h.contents ++ done.bytes ∷ [])
       (h.streams ++ done.stamps ∷ []) in
-      let all = are_read_on files before middle after told (files_to parsed line) h.contents h.loaded.read in
-      let one = is_read_from files before middle after done.stream.name done.bytes done.read.read in
+      let all =
+      are_read_on files before middle after told (files_to parsed line) h.contents h.streams h.loaded in
+      let one = is_read_from files before middle after done.stream.name done.bytes done.read.0 in
+      let events = sym (events_at-file mid line done.stream done.bytes done.takes) ∙ done.means in
       record {
         contents = h.contents ++ done.bytes ∷ [];
         streams = h.streams ++ done.stamps ∷ [];
-        loaded = subst Q (sym (files_after parsed line (done.stream ∷ []) takes)) (record {
-          read =
-              are_read_push (span files before after)
-              (files_to parsed line) h.contents done.stream done.bytes all one;
-          stamps =
-              events_more (files_to parsed line) h.contents h.streams done.stream done.bytes done.stamps
-              h.loaded.stamps (sym (events_at-file mid line done.stream done.bytes done.takes) ∙ done.means);
-        });
+        loaded =
+            subst Q (sym (files_after parsed line (done.stream ∷ []) takes))
+            (are_read_push (span files before after) (files_to parsed line) h.contents h.streams done.stream
+            done.bytes done.stamps all one events);
         whole = whole_more new is h done.stream done.stamps takes done.now;
-        last = is_last_push files before middle after h.contents done.bytes done.read.last;
-        no_fault = done.read.no_fault ∙ h.no_fault;
+        last = is_last_push files before middle after h.contents done.bytes h.no_fault done.read.1;
+        no_fault = done.read.1.no_fault ∙ h.no_fault;
       }
 
   -- one more line
@@ -216,7 +187,7 @@ pub none_read : (files : Option (List File)) (v : InputView) (parsed : RecordVie
 none_read files v parsed = record {
   contents = [];
   streams = [];
-  loaded = record { read = tt; stamps = tt };
+  loaded = tt;
   whole = refl;
   last = refl;
   no_fault = refl;
@@ -229,8 +200,7 @@ all_read r parsed now line is past h =
     let files : files_to parsed line ≡ stream_files parsed.lines =
     ap stream_files (take_all line parsed.lines past) in
     let k : length (files_to parsed line) ≡ length h.streams =
-    are_read_length r (files_to parsed line) h.contents h.loaded.read
-    ∙ same_length (files_to parsed line) h.contents h.streams h.loaded.stamps in
+    are_read_length r (files_to parsed line) h.contents h.streams h.loaded in
     let count : length (stream_files parsed.lines) ≡ length parsed.streams =
     rw (← as_many_files parsed.lines, is.numbered) (length-range_with_len 0 (length parsed.streams)) in
     let full : length parsed.streams ≤ length h.streams =

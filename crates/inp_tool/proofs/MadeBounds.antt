@@ -1,22 +1,22 @@
 -- No job of a record that is made stops since a history is full.
 use Rattle.std.proofs.Common.{◌≡◌, ◌≤◌, ℕ, zero, suc, ◌+◌, ◌*◌, ◌%◌, nat_eq, Bool, true, false, if◌then◌else◌}
 use Rattle.std.proofs.Common.{List, [], ◌∷◌, ◌++◌, map, length, refl, sym, ap, arith, Option, Some, None}
-use Rattle.std.specs.Prelude.{◌&&◌, codes, nat_le, filter, slice_get, flat_map, option_and_then}
+use Rattle.std.specs.Prelude.{◌&&◌, codes, nat_le, filter, slice_get, flat_map, option_and_then, option_map}
 use Rattle.std.specs.List.{enumerate_from, list_any, range_with_len}
 use Rattle.std.proofs.lemmas.Bool.{ne_eqb, cond_both, and_parts, leb-true}
 use Rattle.std.proofs.lemmas.Option.{option_and_then_some, cond_some}
 use Rattle.inp_args.specs.declared.request.Request.TheVariants.{Make}
 use Rattle.inp_args.specs.Command.{is_taken, is_given, found_text}
 use Rattle.inp_args.specs.Number.{number_of}
-use Rattle.inp_args.specs.Request.{count_of, make_request, request_of, migration_of, requested, request_with}
-use Rattle.inp_args.specs.Request.{idle_number}
+use Rattle.inp_args.specs.declared.request.Request.{Request}
+use Rattle.inp_args.specs.Request.{number_or, request_of, requested}
 use Rattle.inp_model.specs.declared.event.Event.{Event}
 use Rattle.inp_model.specs.declared.step.Step.{Step}
 use Rattle.inp_model.specs.Description.{ring}
 use Rattle.inp_actors.specs.declared.command.Command.TheVariants as command
 use Rattle.inp_actors.specs.declared.line.Line.{Line}
 use Rattle.inp_actors.specs.Record.{RecordView}
-use Rattle.inp_make.specs.Generated.{pad, fast, mid, slow, line, frame_moment, injected, finger_events}
+use Rattle.inp_make.specs.Generated.{pad, line, injected, finger_events}
 use Rattle.inp_make.specs.Generated.{touches, frame_events, follows, frame_lines, open_lines, lines}
 use Rattle.inp_make.specs.Generated.{generated}
 use Rattle.inp_reader.specs.Reader.{queries, axes_among}
@@ -73,14 +73,14 @@ adds-events r frame [] = adds-none r pad
 adds-events r frame (e ∷ es) =
     adds-more r pad (1 + length es) (suc (length es)) (map (injected frame) (e ∷ es)) (omega arith)
     (adds-line r pad (length es) 1 (injected frame e) (map (injected frame) es)
-    (event-bound pad (frame_moment frame) e.kind e.code e.value) (adds-events r frame es))
+    (event-bound pad (10000 * (frame + 1)) e.kind e.code e.value) (adds-events r frame es))
 
 adds-follows : (r : RecordView) (frame : ℕ) → Adds r pad 22 (follows frame)
 adds-follows r frame =
-    let mid_line : List Line = line mid command.Follow ∷ [] in
-    adds-line r pad 11 11 (line fast command.Follow) _ following
+    let mid_line : List Line = line 2 command.Follow ∷ [] in
+    adds-line r pad 11 11 (line 1 command.Follow) _ following
     (cond_both (nat_eq (frame % 10) 9) mid_line [] (λ (ls : List Line). Adds r pad 11 ls)
-    (λ _. adds-line r pad 0 11 (line mid command.Follow) [] following (adds-none r pad))
+    (λ _. adds-line r pad 0 11 (line 2 command.Follow) [] following (adds-none r pad))
     (λ _. adds-more r pad 0 11 [] (omega arith) (adds-none r pad)))
 
 first-events : (number : ℕ) → length (frame_events number 0) ≡ 42
@@ -117,19 +117,19 @@ adds-frames r number first (suc count) =
 
 adds-opens : (r : RecordView) → Adds r pad 9 open_lines
 adds-opens r =
-    adds-line r pad 6 3 (line fast command.Open) _ opening
-    (adds-line r pad 3 3 (line mid command.Open) _ opening
-    (adds-line r pad 0 3 (line slow command.Open) [] opening (adds-none r pad)))
+    adds-line r pad 6 3 (line 1 command.Open) _ opening
+    (adds-line r pad 3 3 (line 2 command.Open) _ opening
+    (adds-line r pad 0 3 (line 3 command.Open) [] opening (adds-none r pad)))
 
 adds-lines : (r : RecordView) (number count : ℕ) → Adds r pad (20 + 64 * count) (lines number count)
 unfolding lines
 adds-lines r number count =
     let frames : List Line = flat_map (frame_lines number) (range_with_len 0 count) in
-    let last : List Line = line slow command.Follow ∷ [] in
+    let last : List Line = line 3 command.Follow ∷ [] in
     adds-more r pad (9 + 64 * count + 11) (20 + 64 * count) _ (omega arith)
     (adds-append r pad (9 + 64 * count) 11 (open_lines ++ frames) last
     (adds-append r pad 9 (64 * count) open_lines frames (adds-opens r) (adds-frames r number 0 count))
-    (adds-line r pad 0 11 (line slow command.Follow) [] following (adds-none r pad)))
+    (adds-line r pad 0 11 (line 3 command.Follow) [] following (adds-none r pad)))
 
 -- Before the first line
 
@@ -234,12 +234,15 @@ made-not_full number count played least most is joys owners =
 
 -- The count that is asked for
 
-made_count : (number count : ℕ) (a b : Option ℕ) → make_request a b ≡ Some (Make number count)
+made_count : (number count : ℕ) (a b : Option ℕ)
+    → option_and_then (λ n. option_map (λ frames. Make n frames) b) a ≡ Some (Make number count)
     → b ≡ Some count
 made_count number count (Some x) (Some y) h = cc
-made_count number count a b h = absurd cc
+made_count number count (Some x) None h = absurd cc
+made_count number count None b h = absurd cc
 
-read_count : (count : ℕ) (text : Option (List ℕ)) → count_of text ≡ Some count → (1 ≤ count) × (count ≤ 10000)
+read_count : (count : ℕ) (text : Option (List ℕ)) → number_or 100 10000 text ≡ Some count
+    → (1 ≤ count) × (count ≤ 10000)
 read_count count None h = let same : 100 ≡ count = cc in (omega arith, omega arith)
 read_count count (Some text) h =
     let within : ℕ → Option ℕ = λ n. if nat_le 1 n && nat_le n 10000 then Some n else None in
@@ -248,47 +251,39 @@ read_count count (Some text) h =
     let range = and_parts (nat_le 1 n) (nat_le n 10000) found.0 in
     (omega (arith, leb-true 1 n range.0, found.1), omega (arith, leb-true n 10000 range.1, found.1)))
 
-asked_count : (number count : ℕ) (file make text : Option (List ℕ)) (history : Bool) (idle : Option ℕ)
-    → request_of file make text history idle ≡ Some (Make number count) → (1 ≤ count) × (count ≤ 10000)
-asked_count number count (Some file) None None history idle h = absurd cc
-asked_count number count None (Some make) text false None h =
-    read_count count text (made_count number count (number_of make) (count_of text) h)
-asked_count number count file make text history idle h = absurd cc
-
--- no record is made where one is migrated
-migrates_none : (number count : ℕ) (file make text bound : Option (List ℕ)) (history threads : Bool)
-    → migration_of file make text bound history threads ≡ Some (Make number count) → ⊥
-migrates_none number count (Some file) None None None false false h = cc
-migrates_none number count file make text bound history threads h = cc
-
-by_migrate : (number count : ℕ) (file make text bound : Option (List ℕ)) (history threads migrate : Bool)
-    (idle : Option ℕ)
-    → (if migrate then migration_of file make text bound history threads
-    else request_of file make text history idle) ≡ Some (Make number count) → (1 ≤ count) × (count ≤ 10000)
-by_migrate number count file make text bound history threads true idle e =
-    absurd (migrates_none number count file make text bound history threads e)
-by_migrate number count file make text bound history threads false idle e =
-    asked_count number count file make text history idle e
+asked_count : (number count : ℕ) (file make text bound : Option (List ℕ)) (migrate history : Bool)
+    (idle : Option ℕ) → request_of file make text bound migrate history idle ≡ Some (Make number count)
+    → (1 ≤ count) × (count ≤ 10000)
+asked_count number count (Some file) None None bound false history idle h = absurd cc
+asked_count number count (Some file) None None None true false None h = absurd cc
+asked_count number count None (Some make) text bound false false None h =
+    read_count count text (made_count number count (number_of make) (number_or 100 10000 text) h)
+asked_count number count file make text bound migrate history idle h = absurd cc
 
 has_count : (words : List (List ℕ)) (number count : ℕ) → requested words ≡ Some (Make number count)
     → (1 ≤ count) × (count ≤ 10000)
 has_count words number count h = by_flag (is_taken words) h
   where
-    by_idle : (idle : Option ℕ) → option_and_then (request_with words) idle ≡ Some (Make number count)
+    with_bound : ℕ → Option Request
+    with_bound n =
+        request_of (found_text (codes "FILE") words) (found_text (codes "make") words)
+        (found_text (codes "count") words) (found_text (codes "idle") words)
+        (is_given (found_text (codes "migrate") words)) (is_given (found_text (codes "history") words))
+        (if is_given (found_text (codes "threads") words) then Some n else None)
+
+    by_idle : (idle : Option ℕ) → option_and_then with_bound idle ≡ Some (Make number count)
         → (1 ≤ count) × (count ≤ 10000)
     by_idle None e = absurd cc
     by_idle (Some n) e =
-        by_migrate number count (found_text (codes "FILE") words) (found_text (codes "make") words)
+        asked_count number count (found_text (codes "FILE") words) (found_text (codes "make") words)
         (found_text (codes "count") words) (found_text (codes "idle") words)
-        (is_given (found_text (codes "history") words)) (is_given (found_text (codes "threads") words))
-        (is_given (found_text (codes "migrate") words))
+        (is_given (found_text (codes "migrate") words)) (is_given (found_text (codes "history") words))
         (if is_given (found_text (codes "threads") words) then Some n else None) e
 
     idle : Option ℕ
-    idle = idle_number (found_text (codes "idle") words)
+    idle = number_or 1000000 1000000000 (found_text (codes "idle") words)
 
-    by_flag : (b : Bool)
-        → (if b then option_and_then (request_with words) idle else None) ≡ Some (Make number count)
+    by_flag : (b : Bool) → (if b then option_and_then with_bound idle else None) ≡ Some (Make number count)
         → (1 ≤ count) × (count ≤ 10000)
     by_flag true e = by_idle idle e
     by_flag false e = absurd cc

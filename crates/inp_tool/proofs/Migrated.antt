@@ -17,8 +17,15 @@ same_text r streams = refl
 
 -- it means the record of the lines that were read, in version 2
 pub means_upgraded : (r : Reads) (file text : List ℕ) (recorded : RecordView) (h : HasRecord r file recorded)
-    → text ≡ record_text (upgraded recorded) → meaning text ≡ Ok (upgraded h.is.parsed)
+    → text ≡ record_text (upgraded recorded)
+    → (streams : List (List Stamped)) × (meaning text ≡ Ok (record (upgraded recorded) { streams = streams }))
 means_upgraded r file text recorded h says =
-    let same : text ≡ record_text (upgraded h.is.parsed) =
-    rw (says, h.is.whole) (same_text h.is.parsed h.is.streams) in
-    ap meaning same ∙ reads_again h.is.text h.is.parsed h.is.is_parsed.means
+    let parsed = h.is.parsed in
+    let same : text ≡ record_text (upgraded parsed) =
+    rw (says, h.is.whole) (same_text parsed h.is.all.streams) in
+    let back : upgraded parsed ≡ record (upgraded recorded) { streams = parsed.streams } = rw h.is.whole in
+    (
+      parsed.streams,
+      ap meaning same ∙ reads_again h.is.all.text parsed h.is.all.means
+      ∙ ap (λ (x : RecordView). Ok x) back,
+    )

@@ -1,10 +1,11 @@
 -- A text, and the streams behind it.
-use Rattle.std.proofs.Common.{◌≡◌, ◌≤◌, ◌⊎◌, ℕ, List, [], ◌∷◌, length, Option, Some, Result, Ok, Err, refl}
+use Rattle.std.proofs.Common.{◌≡◌, ◌≤◌, ◌⊎◌, ℕ, List, [], ◌∷◌, length, take, Option, Some, Result, Ok, Err}
 use Rattle.std.proofs.Common.{sym, ap, subst, ◌∙◌, inl, inr, arith}
 use Rattle.std.specs.Prelude.{MatchResult, slice_get}
 use Rattle.std.proofs.lemmas.Result.{MatchResult-weaker}
 use Rattle.inp_edge.specs.File.{File}
 use Rattle.inp_edge.specs.declared.input.TheConstants.{INPUT_LIMIT}
+use Rattle.inp_model.specs.declared.stamped.Stamped.{Stamped}
 use Rattle.inp_actors.specs.declared.command.Command.TheVariants.{Stream, Stream16}
 use Rattle.inp_actors.specs.declared.line.Line.{Line}
 use Rattle.inp_actors.specs.Record.{RecordView}
@@ -16,40 +17,26 @@ use Rattle.inp_tool.specs.declared.no_record.NoRecord.TheVariants.{Unread, TooLo
 use Rattle.inp_tool.specs.Edge.{InputView, Reads}
 use Rattle.inp_tool.specs.Streams.{StreamFile, file_of, stream_files}
 use Rattle.inp_tool.specs.RecordFile.{IsRead, IsLast, IsReadLast, IsUnread, IsTooLong, RanOut, CannotRead}
-use Rattle.inp_tool.specs.RecordFile.{HaveContents}
-use Rattle.inp_tool.specs.RecordFile.{IsParsed, IsAtStream, IsNextStream, HasRecord, HasNoRecord}
+use Rattle.inp_tool.specs.RecordFile.{AreLoaded, HasLoaded, StreamReached, HasRecord, HasNoRecord}
 use Rattle.inp_tool.specs.RecordFile.{last_contents}
 use Rattle.inp_tool.specs.LoadedStreams.{TakesFiles, IsDone, CannotDo, IsStream, IsNoStream, IsLastOf}
+use Rattle.inp_tool.specs.LoadedStreams.{IsAtStream}
 use Rattle.inp_tool.specs.LoadedStreams.{HasParts, HasNoParts, HasNoLines, HasNoStreams}
 use Rattle.inp_tool.proofs.Spans.{span, AreToldAlike, is_read_on, are_read_from, is_unread_from}
 use Rattle.inp_tool.proofs.Spans.{is_too_long_from, ran_out_from, is_read_last_from}
 
--- the streams before a line do not depend on what was before them
-at_stream_from : (files : Option (List File)) (before middle after : InputView) (parsed : RecordView)
-    (line : ℕ) (stream : StreamFile) → IsAtStream (span files middle after) parsed line stream
-    → IsAtStream (span files before after) parsed line stream
-at_stream_from files before middle after parsed line stream h = record {
-  contents = h.contents;
-  streams = h.streams;
-  loaded = record {
-    read = are_read_from files before middle after _ h.contents h.loaded.read;
-    stamps = h.loaded.stamps;
-  };
-  here = h.here;
-}
-
 -- memory ran out behind a file that was read
 pub ran_out_behind : (r : Reads) (name bytes : List ℕ) → IsReadLast r name bytes → RanOut r
 ran_out_behind r name bytes h =
-    record { no_fault = h.no_fault; within = omega (arith, h.last.counted, h.read.within) }
+    record { no_fault = h.1.no_fault; within = omega (arith, h.1.counted, h.0.within) }
 
-last_within : (r : Reads) (first : List ℕ) (streams : List StreamFile) (contents : List (List ℕ))
-    → length first ≤ INPUT_LIMIT → HaveContents (IsRead r) streams contents
-    → length (last_contents first contents) ≤ INPUT_LIMIT
-last_within r first [] [] h are = h
-last_within r first (stream ∷ streams) (next ∷ contents) h are =
-    last_within r next streams contents are.0.within are.1
-last_within r first streams contents h are = absurd are
+last_within : (r : Reads) (first : List ℕ) (its : List StreamFile) (contents : List (List ℕ))
+    (streams : List (List Stamped)) → length first ≤ INPUT_LIMIT
+    → AreLoaded (IsRead r) its contents streams → length (last_contents first contents) ≤ INPUT_LIMIT
+last_within r first [] [] [] h are = h
+last_within r first (file ∷ its) (next ∷ contents) (stamps ∷ streams) h are =
+    last_within r next its contents streams are.0.within are.2
+last_within r first its contents streams h are = absurd are
 
 takes_files : (old : RecordView) (line : ℕ) (l : Line) (stream : StreamFile)
     → slice_get old.lines line ≡ Some l → file_of l.command ≡ stream ∷ [] → TakesFiles old line (stream ∷ [])
@@ -112,57 +99,56 @@ line_unread r text old line stream name NoMemory takes same h = h
 -- memory ran out behind a record that was read
 pub ran_out_after : (r : Reads) (file : List ℕ) (recorded : RecordView) → HasRecord r file recorded → RanOut r
 ran_out_after r file recorded h =
+    let all = h.is.all in
     let last =
-    last_within r h.is.text (stream_files h.is.parsed.lines) h.is.contents h.is.is_parsed.read.within
-    h.is.loaded.read in
-    record { no_fault = h.no_fault; within = omega (arith, h.last.counted, last) }
+    last_within r all.text (stream_files h.is.parsed.lines) all.contents all.streams all.read.within
+    all.loaded in
+    record { no_fault = h.last.no_fault; within = omega (arith, h.last.counted, last) }
 
 module _ (files : Option (List File)) (before middle after : InputView) (told : AreToldAlike middle after)
     (file text : List ℕ) (first : IsReadLast (span files before middle) file text) where
-  is_parsed : (parsed : RecordView) → meaning text ≡ Ok parsed
-      → IsParsed (IsRead (span files before after)) file text parsed
-  is_parsed parsed means =
-      record { read = is_read_on files before middle after told file text first.read; means = means }
-
   last_read : (contents : List (List ℕ)) → IsLastOf (span files middle after) contents
       → IsLast (span files before after) (last_contents text contents)
   last_read [] same =
       let P : InputView → Type 0 = λ v. IsLast (span files before v) text in
-      subst P (sym same) first.last
-  last_read (bytes ∷ contents) h = record { counted = h.counted; ended = h.ended }
+      subst P (sym same) first.1
+  last_read (bytes ∷ contents) h =
+      record { counted = h.counted; ended = h.ended; no_fault = h.no_fault ∙ first.1.no_fault }
+
+  -- the streams of some lines do not depend on what was before them
+  has_loaded : (parsed : RecordView) (lines : List Line) (contents : List (List ℕ))
+      (streams : List (List Stamped)) → meaning text ≡ Ok parsed
+      → AreLoaded (IsRead (span files middle after)) (stream_files lines) contents streams
+      → HasLoaded (IsRead (span files before after)) file parsed lines
+  has_loaded parsed lines contents streams means loaded = record {
+    text = text;
+    read = is_read_on files before middle after told file text first.0;
+    means = means;
+    contents = contents;
+    streams = streams;
+    loaded = are_read_from files before middle after (stream_files lines) contents streams loaded;
+  }
 
   pub has_record : (recorded : RecordView) → HasParts (span files middle after) text recorded
       → HasRecord (span files before after) file recorded
+  unfolding has_loaded
   has_record recorded h = record {
     is = record {
-      text = text;
       parsed = h.parsed;
-      is_parsed = is_parsed h.parsed h.means;
-      contents = h.done.contents;
-      streams = h.done.streams;
-      loaded = record {
-        read =
-            are_read_from files before middle after
-            (stream_files h.parsed.lines) h.done.contents h.done.loaded.read;
-        stamps = h.done.loaded.stamps;
-      };
+      all = has_loaded h.parsed h.parsed.lines h.done.contents h.done.streams h.means h.done.loaded;
       whole = h.done.whole;
     };
     last = last_read h.done.contents h.done.last;
-    no_fault = h.done.no_fault ∙ first.no_fault;
   }
 
-  next_stream : (parsed : RecordView) → meaning text ≡ Ok parsed → (line : ℕ) (stream : StreamFile)
-      → IsAtStream (span files middle after) parsed line stream
-      → IsNextStream (span files before after) file stream.name
-  next_stream parsed means line stream at = record {
-    text = text;
+  stream_reached : (parsed : RecordView) → meaning text ≡ Ok parsed → (line : ℕ) (stream : StreamFile)
+      → IsAtStream (span files middle after) parsed line stream → StreamReached (span files before after) file
+  stream_reached parsed means line stream h = record {
     parsed = parsed;
-    is_parsed = is_parsed parsed means;
     line = line;
+    before = has_loaded parsed (take line parsed.lines) h.contents h.streams means h.loaded;
     stream = stream;
-    at = at_stream_from files before middle after parsed line stream at;
-    is_name = refl;
+    here = h.here;
   }
 
   -- the text is no record
@@ -172,7 +158,7 @@ module _ (files : Option (List File)) (before middle after : InputView) (told : 
   no_lines TooLong h = absurd h.refusal
   no_lines (Refused refused) h =
       let P : InputView → Type 0 = λ v. IsReadLast (span files before v) file text in
-      inl (record { text = text; read = subst P (sym h.untouched) first; means = h.refusal })
+      inl (text, subst P (sym h.untouched) first, h.refusal)
   no_lines NoMemory h =
       let P : InputView → Type 0 = λ v. RanOut (span files before v) in
       subst P (sym h.untouched) (ran_out_behind (span files before middle) file text first)
@@ -180,39 +166,31 @@ module _ (files : Option (List File)) (before middle after : InputView) (told : 
   -- a stream was not read
   no_streams : (why : NoRecord) → HasNoStreams (span files middle after) text why
       → HasNoRecord (span files before after) file why
+  unfolding stream_reached has_loaded
   no_streams Unread h =
       let c = h.cannot in
-      record {
-        name = (c.1).name;
-        next = inr (next_stream h.parsed h.means c.0 c.1 c.2);
-        is = is_unread_from files before middle after (c.1).name first.no_fault c.3;
-      }
+      inr (
+        stream_reached h.parsed h.means c.0 c.1 c.2,
+        is_unread_from files before middle after (c.1).name first.1.no_fault c.3,
+      )
   no_streams TooLong h =
       let c = h.cannot in
-      record {
-        name = (c.1).name;
-        next = inr (next_stream h.parsed h.means c.0 c.1 c.2);
-        is = is_too_long_from files before middle after (c.1).name first.no_fault c.3;
-      }
+      inr (
+        stream_reached h.parsed h.means c.0 c.1 c.2,
+        is_too_long_from files before middle after (c.1).name first.1.no_fault c.3,
+      )
   no_streams (Refused refused) h =
       let bad = h.cannot in
       inr (record {
-        text = text;
-        parsed = h.parsed;
-        is_parsed = is_parsed h.parsed h.means;
-        bad = record {
-          line = bad.line;
-          stream = bad.stream;
-          at = at_stream_from files before middle after h.parsed bad.line bad.stream bad.at;
-          bytes = bad.bytes;
-          read =
-              is_read_last_from files before middle after bad.stream.name bad.bytes first.no_fault bad.read;
-          no_stream = bad.no_stream;
-          number = bad.number;
-          cause = bad.cause;
-        };
+        reached = stream_reached h.parsed h.means bad.line bad.stream bad.at;
+        bytes = bad.bytes;
+        read =
+            is_read_last_from files before middle after bad.stream.name bad.bytes first.1.no_fault bad.read;
+        no_stream = bad.no_stream;
+        number = bad.number;
+        cause = bad.cause;
       })
-  no_streams NoMemory h = ran_out_from files before middle after first.no_fault h.cannot
+  no_streams NoMemory h = ran_out_from files before middle after first.1.no_fault h.cannot
 
   pub has_no_record : (why : NoRecord) → HasNoParts (span files middle after) text why
       → HasNoRecord (span files before after) file why

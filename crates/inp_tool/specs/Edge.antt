@@ -1,5 +1,5 @@
 -- What a call's input and sink tell before the call and after it.
-use Rattle.std.specs.Prelude.{ℕ, ◌≡◌, List, Option}
+use Rattle.std.specs.Prelude.{ℕ, List, Option}
 use Rattle.inp_edge.specs.File.{File}
 
 -- What an input tells besides its files. That is how many bytes were given since a file was begun, the bytes
@@ -28,22 +28,11 @@ pub record Writes : Type 0 where
 -- by what an input and a sink tell, the input as it was before some calls and as it is after them
 abbrev pub reads_of : {I : Type 0}
     → (I → Option (List File)) → (I → ℕ) → (I → Option (List ℕ)) → (I → ℕ) → I → I → Reads
-reads_of files given left faults old new = record {
-  files = files old;
-  before = record { given = given old; left = left old; faults = faults old };
-  after = record { given = given new; left = left new; faults = faults new };
-}
+reads_of files given left faults old new =
+    let view : _ → InputView = λ input. record { given = given input; left = left input; faults = faults input } in
+    record { files = files old; before = view old; after = view new }
 
 abbrev pub writes_of : {O : Type 0} → (O → Option (List ℕ)) → (O → ℕ) → O → O → Writes
-writes_of written faults old new = record {
-  before = record { written = written old; faults = faults old };
-  after = record { written = written new; faults = faults new };
-}
-
--- no call of the input was at fault
-abbrev pub KeepsInputFaults : Reads → Type 0
-KeepsInputFaults r = r.after.faults ≡ r.before.faults
-
--- no call of the sink was at fault
-abbrev pub KeepsSinkFaults : Writes → Type 0
-KeepsSinkFaults w = w.after.faults ≡ w.before.faults
+writes_of written faults old new =
+    let view : _ → SinkView = λ sink. record { written = written sink; faults = faults sink } in
+    record { before = view old; after = view new }

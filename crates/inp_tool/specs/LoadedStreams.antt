@@ -11,9 +11,9 @@ use Rattle.inp_record.specs.Stream.{events_at, with_stream}
 use Rattle.inp_record.specs.LineNumber.{action_numbers}
 use Rattle.inp_tool.specs.declared.no_record.NoRecord.{NoRecord}
 use Rattle.inp_tool.specs.declared.no_record.NoRecord.TheVariants.{Unread, TooLong, Refused as IsRefused, NoMemory}
-use Rattle.inp_tool.specs.Edge.{Reads, KeepsInputFaults}
-use Rattle.inp_tool.specs.Streams.{StreamFile, file_of, stream_files}
-use Rattle.inp_tool.specs.RecordFile.{IsRead, IsUnread, IsTooLong, RanOut, IsReadLast, IsLast, AreLoaded, IsAtStream, IsBadStream, last_contents}
+use Rattle.inp_tool.specs.Edge.{Reads}
+use Rattle.inp_tool.specs.Streams.{StreamFile, file_of, stream_files, events_in}
+use Rattle.inp_tool.specs.RecordFile.{IsRead, IsUnread, IsTooLong, RanOut, IsReadLast, IsLast, AreLoaded, last_contents}
 
 -- an action line names these files: one, or none where it takes no stream
 abbrev pub TakesFiles : RecordView → ℕ → List StreamFile → Type 0
@@ -67,7 +67,7 @@ pub record IsLoadedTo (r : Reads) (parsed : RecordView) (line : ℕ) (now : Reco
   pub loaded : AreLoaded (IsRead r) (stream_files (take line parsed.lines)) contents streams
   pub whole : now ≡ record parsed { streams = streams ++ drop (length streams) parsed.streams }
   pub last : IsLastOf r contents
-  pub no_fault : KeepsInputFaults r
+  pub no_fault : r.after.faults ≡ r.before.faults
 
 -- All streams were read, and stand in the record.
 pub record AreStreamsLoaded (r : Reads) (parsed now : RecordView) : Type 0 where
@@ -76,7 +76,25 @@ pub record AreStreamsLoaded (r : Reads) (parsed now : RecordView) : Type 0 where
   pub loaded : AreLoaded (IsRead r) (stream_files parsed.lines) contents streams
   pub whole : now ≡ record parsed { streams = streams }
   pub last : IsLastOf r contents
-  pub no_fault : KeepsInputFaults r
+  pub no_fault : r.after.faults ≡ r.before.faults
+
+-- An action line takes this file as its stream, and the streams of the lines before it are loaded.
+pub record IsAtStream (r : Reads) (parsed : RecordView) (line : ℕ) (stream : StreamFile) : Type 0 where
+  pub contents : List (List ℕ)
+  pub streams : List (List Stamped)
+  pub loaded : AreLoaded (IsRead r) (stream_files (take line parsed.lines)) contents streams
+  pub here : TakesFiles parsed line (stream ∷ [])
+
+-- the file of a stream line was read, and its bytes are no stream
+pub record IsBadStream (r : Reads) (text : List ℕ) (parsed : RecordView) (refused : Refused) : Type 0 where
+  pub line : ℕ
+  pub stream : StreamFile
+  pub at : IsAtStream r parsed line stream
+  pub bytes : List ℕ
+  pub read : IsReadLast r stream.name bytes
+  pub no_stream : events_in stream bytes ≡ None
+  pub number : slice_get (action_numbers 1 (text_lines text)) line ≡ Some refused.line
+  pub cause : refused.cause ≡ BadStream
 
 -- why the streams of a record were not read
 abbrev pub CannotFinish : Reads → List ℕ → RecordView → NoRecord → Type 0

@@ -14,15 +14,6 @@ use Rattle.inp_tool.specs.declared.end.End.{End}
 use Rattle.inp_tool.specs.declared.outcome.Outcome.{Outcome}
 use Rattle.inp_tool.specs.declared.outcome.Outcome.TheVariants.{Usage, Unread, TooLong, Refused as IsRefused, NoMemory, Played as WasPlayed, Migrated}
 
-abbrev pub unread_text : List ℕ
-unread_text = codes "inputplay: read failed" ++ LINE_FEED
-
-abbrev pub too_long_text : List ℕ
-too_long_text = codes "inputplay: input too long" ++ LINE_FEED
-
-abbrev pub no_memory_text : List ℕ
-no_memory_text = codes "inputplay: out of memory" ++ LINE_FEED
-
 -- inputplay: line L: CAUSE
 abbrev pub refused_text : Refused → List ℕ
 refused_text refused =
@@ -48,12 +39,13 @@ played_status played = if has_full played then 6 else 0
 abbrev pub no_play : Played
 no_play = record { runs = []; joys = []; owners = [] }
 
+-- what each outcome writes
 abbrev pub text_of : Outcome → List ℕ
 text_of Usage = usage_text
-text_of Unread = unread_text
-text_of TooLong = too_long_text
+text_of Unread = codes "inputplay: read failed" ++ LINE_FEED
+text_of TooLong = codes "inputplay: input too long" ++ LINE_FEED
 text_of (IsRefused refused text) = string_bytes text
-text_of NoMemory = no_memory_text
+text_of NoMemory = codes "inputplay: out of memory" ++ LINE_FEED
 text_of (WasPlayed played text) = text.items
 text_of (Migrated text) = text.items
 

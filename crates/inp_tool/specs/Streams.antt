@@ -1,5 +1,5 @@
 -- The files that the stream lines of a record name.
-use Rattle.std.specs.Prelude.{◌≡◌, ℕ, List, [], ◌∷◌, flat_map, Option, Some}
+use Rattle.std.specs.Prelude.{ℕ, List, [], ◌∷◌, flat_map, Option}
 use Rattle.inp_model.specs.declared.stamped.Stamped.{Stamped}
 use Rattle.inp_actors.specs.declared.command.Command.{Command}
 use Rattle.inp_actors.specs.declared.command.Command.TheVariants.{Stream, Stream16}
@@ -27,10 +27,3 @@ stream_files lines = flat_map (λ line. file_of line.command) lines
 -- the events that a file of a stream holds, where its bytes are these
 abbrev pub events_in : StreamFile → List ℕ → Option (List Stamped)
 events_in file bytes = stamps_of (time_len file.form) bytes
-
--- files with these contents hold these events, one list for each file
-abbrev pub HoldEvents : List StreamFile → List (List ℕ) → List (List Stamped) → Type 0
-HoldEvents [] [] [] = Unit {0}
-HoldEvents (file ∷ files) (bytes ∷ contents) (stamps ∷ streams) =
-    (events_in file bytes ≡ Some stamps) × HoldEvents files contents streams
-HoldEvents _ _ _ = ⊥

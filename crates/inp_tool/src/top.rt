@@ -1,9 +1,9 @@
 //! The program's one call.
-ghost use Rattle.std.specs.Prelude.{◌≡◌, ◌≤◌, map, is_some, string_bytes, IfSome, Some};
+ghost use Rattle.std.specs.Prelude.{◌≡◌, ◌≤◌, ◌⊎◌, map, is_some, string_bytes, IfSome, Some};
 ghost use Rattle.inp_args.specs.Request.{Arguments, requested};
 ghost use Rattle.inp_tool.specs.Edge.{Reads, reads_of, writes_of};
 ghost use Rattle.inp_tool.specs.Outcome.{played_status, end_of};
-ghost use Rattle.inp_tool.specs.Promise.{AskFor, HasCause, IsWritten, Promise, HidesNoFault};
+ghost use Rattle.inp_tool.specs.Promise.{HasCause, IsWrittenWhole, IsWrittenInPart, Promise, HidesNoFault};
 ghost use Rattle.inp_tool.specs.Complete.{IsComplete};
 
 use crate::End;
@@ -111,7 +111,7 @@ fn play_file<R: Threads + Wait + Sync, I: Input, G: Gate>(
     gate: &G,
 ) -> Outcome
     requires bound { IfSome idle (λ most. 1 ≤ most) }
-    ensures cause { (words : Arguments) → AskFor words file.now history idle
+    ensures cause { (words : Arguments) → requested words ≡ Some (Request.Play file.now history idle)
         → HasCause words (reads_of I.files I.given I.left I.faults input.old input.new) result }
     ensures files_stay { I.files input.new ≡ I.files input.old }
     ensures stays_told { is_some (I.left input.new) ≡ is_some (I.left input.old) }
@@ -157,7 +157,8 @@ fn play_made(alloc: Global, number: u32, count: u32) -> Outcome
 
 /// Writes the text of what was found, and tells its status, or 4 where the sink failed.
 fn write_outcome<O: Sink>(alloc: Global, found: Outcome, out: &mut O) -> End
-    ensures written { IsWritten (writes_of O.written O.faults out.old out.new) found result }
+    ensures written { let w = writes_of O.written O.faults out.old out.new in
+        IsWrittenWhole w found result ⊎ IsWrittenInPart w found result }
     ensures never_falls { O.faults out.old ≤ O.faults out.new }
 {
     let written = write_all(out, found.text());

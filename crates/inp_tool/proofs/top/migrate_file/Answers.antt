@@ -1,18 +1,22 @@
-use Rattle.std.proofs.Common.{inr}
+use Rattle.std.proofs.Common.{refl, inr}
+use Rattle.inp_args.specs.declared.request.Request.TheVariants.{Migrate}
 use Rattle.inp_tool.proofs.Records.{ran_out_after}
-use Rattle.inp_tool.proofs.Faults.{migrates_file}
+use Rattle.inp_tool.proofs.Faults.{names_file}
 use Rattle.inp_tool.proofs.Migrated.{means_upgraded}
 use Rattle.inp_tool.proofs.top.migrate_file.Goals as goal
 
 pub returns-in-Ok-migrated_text-clause-cause : goal.returns-in-Ok-migrated_text-clause-cause
-returns-in-Ok-migrated_text-clause-cause g c = λ words asked. record {
-  file = c.args.file.now;
-  asked = asked;
-  recorded = c.in-Ok.recorded;
-  read = c.in-Ok.ensures.read;
-  says = c.in-Ok-migrated_text.ensures.text;
-  means = means_upgraded _ _ _ _ c.in-Ok.ensures.read c.in-Ok-migrated_text.ensures.text;
-}
+returns-in-Ok-migrated_text-clause-cause g c = λ words asked.
+    let text = c.in-Ok-migrated_text.ensures.text in
+    let means = means_upgraded _ _ _ _ c.in-Ok.ensures.read text in
+    record {
+      request = Migrate c.args.file.now;
+      asked = asked;
+      recorded = c.in-Ok.recorded;
+      had = c.in-Ok.ensures.read;
+      untouched = λ none. absurd cc;
+      answer = (text, means.0, means.1);
+    }
 
 pub returns-in-Err-migrated_text-clause-cause : goal.returns-in-Err-migrated_text-clause-cause
 returns-in-Err-migrated_text-clause-cause g c = λ words asked. inr (ran_out_after _ _ _ c.in-Ok.ensures.read)
@@ -20,4 +24,4 @@ returns-in-Err-migrated_text-clause-cause g c = λ words asked. inr (ran_out_aft
 pub returns-in-Err-clause-cause : goal.returns-in-Err-clause-cause
 returns-in-Err-clause-cause g c =
     λ words asked. c.without_record.ensures.cause words _ _
-    (migrates_file words _ asked) c.in-Err.ensures.read
+    (names_file words (Migrate c.args.file.now) c.args.file.now asked refl) c.in-Err.ensures.read
