@@ -14,14 +14,22 @@ use inp_model::{
 /// The number of the actor `finger`, the source.
 pub(crate) const FINGER: u32 = 0;
 
+const _: () = prove!(FINGER == 0);
+
 /// The number of the client that reads after each frame.
 pub(crate) const FAST: u32 = 1;
+
+const _: () = prove!(FAST == FINGER + 1);
 
 /// The number of the client that reads after each tenth frame.
 pub(crate) const MID: u32 = 2;
 
+const _: () = prove!(MID == FAST + 1);
+
 /// The number of the client that reads at the end.
 pub(crate) const SLOW: u32 = 3;
+
+const _: () = prove!(SLOW == MID + 1);
 
 /// How many fingers touch the pad in each frame.
 const FINGERS: u16 = 10;

@@ -1,5 +1,5 @@
 -- What the program's one call promises (docs/PROMISES.md).
-use Rattle.std.specs.Prelude.{ℕ, ◌≡◌, ◌<◌, ◌≢◌, ◌⊎◌, List, [], string_bytes, Option, Some, None, option_and_then, Ok}
+use Rattle.std.specs.Prelude.{ℕ, ◌≡◌, ◌<◌, ◌≢◌, ◌⊎◌, List, [], length, replicate, string_bytes, Option, Some, None, option_and_then, Ok}
 use Rattle.inp_edge.specs.Count.{RoseUnlessSaturated}
 use Rattle.inp_edge.specs.File.{IsMissing}
 use Rattle.inp_edge.specs.Sink.{Appends, IsCutOff}
@@ -9,7 +9,6 @@ use Rattle.inp_args.specs.declared.request.Request.TheVariants.{Play, Migrate, M
 use Rattle.inp_args.specs.Request.{requested, record_file}
 pub use Rattle.inp_args.specs.Request.{Arguments}
 use Rattle.inp_make.specs.Generated.{generated}
-use Rattle.inp_model.specs.declared.stamped.Stamped.{Stamped}
 use Rattle.inp_actors.specs.Record.{RecordView}
 use Rattle.inp_record.specs.canon.Text.{record_text}
 use Rattle.inp_record.specs.Meaning.{meaning}
@@ -64,7 +63,8 @@ IsRecordOf Is (Make number count) recorded = recorded ≡ generated number count
 abbrev pub IsAnswerTo : Request → RecordView → Outcome → Type 0
 IsAnswerTo (Play file history idle) recorded (WasPlayed played text) = IsResultOf idle recorded played × (text.items ≡ whole_report recorded history played)
 IsAnswerTo (Migrate file) recorded (Migrated text) =
-    (text.items ≡ record_text (upgraded recorded)) × (streams : List (List Stamped)) × (meaning text.items ≡ Ok (record (upgraded recorded) { streams = streams }))
+    (text.items ≡ record_text (upgraded recorded))
+    × (meaning text.items ≡ Ok (record (upgraded recorded) { streams = replicate (length recorded.streams) [] }))
 IsAnswerTo (Make number count) recorded (WasPlayed played text) = IsMade number count recorded played text.items
 IsAnswerTo _ _ _ = ⊥
 

@@ -23,7 +23,7 @@
 //!   file order (`IsPlay`). The text is the report of the devices with that of the joysticks after it, or the summary.
 //!   Of these two statuses 6 comes exactly where a job stopped since a history was full. Where the words ask for the
 //!   record to be migrated, it was read so too. The text is then its canonical text in version 2, which means the same
-//!   record, and there are no runs (`IsMigrated`). With status 1 the line and the cause are the first that the text
+//!   record, and there are no runs (`IsAnswerTo`). With status 1 the line and the cause are the first that the text
 //!   alone decides, else those of the first stream that is at fault.
 //! - `HidesNoFault`: a fault of the input ends in status 3, or in 4 where that text is cut off, one of the sink in 4,
 //!   and neither in another. A file that is not there, and one that is too long, are told by the status too.

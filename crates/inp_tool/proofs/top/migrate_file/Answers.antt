@@ -8,14 +8,13 @@ use Rattle.inp_tool.proofs.top.migrate_file.Goals as goal
 pub returns-in-Ok-migrated_text-clause-cause : goal.returns-in-Ok-migrated_text-clause-cause
 returns-in-Ok-migrated_text-clause-cause g c = λ words asked.
     let text = c.in-Ok-migrated_text.ensures.text in
-    let means = means_upgraded _ _ _ _ c.in-Ok.ensures.read text in
     record {
       request = Migrate c.args.file.now;
       asked = asked;
       recorded = c.in-Ok.recorded;
       had = c.in-Ok.ensures.read;
-      untouched = λ none. absurd cc;
-      answer = (text, means.0, means.1);
+      untouched = λ none. let never : ⊥ = cc none in absurd never;
+      answer = (text, means_upgraded _ _ _ _ c.in-Ok.ensures.read text);
     }
 
 pub returns-in-Err-migrated_text-clause-cause : goal.returns-in-Err-migrated_text-clause-cause
