@@ -29,7 +29,8 @@ abbrev pub requested : List (List ℕ) → Option Request
 requested words =
     let text : List ℕ → Option (List ℕ) = λ name. found_text name words in
     let is_on : List ℕ → Bool = λ name. is_given (text name) in
-    let with_bound : ℕ → Option Request = λ bound. request_of (text (codes "FILE")) (text (codes "make")) (text (codes "count")) (text (codes "idle"))
+    let with_bound : ℕ → Option Request = λ bound.
+    request_of (text (codes "FILE")) (text (codes "make")) (text (codes "count")) (text (codes "idle"))
     (is_on (codes "migrate")) (is_on (codes "history")) (if is_on (codes "threads") then Some bound else None) in
     if is_taken words then option_and_then with_bound (number_or 1000000 1000000000 (text (codes "idle"))) else None
 

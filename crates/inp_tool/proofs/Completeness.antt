@@ -248,9 +248,11 @@ written_whole w found end none (inr part) = absurd (no_rise w.before.faults w.af
 -- without a fault what is asked for is read, found and written whole, unless memory runs out
 pub complete : (words : Arguments) (r : Reads) (w : Writes) (end : End) → Promise words r w end
     → is_some r.after.left ≡ is_some r.before.left → IsComplete words r w end
-complete words r w end p stays = λ request recorded asked had none.
-    let whole = written_whole w p.found end none p.written in
-    elim (answered words r request recorded asked stays p.found had p.cause) [
-      | inl lacks ↦ inl (rw whole.ended lacks)
-      | inr answer ↦ inr (p.found, answer, whole)
-    ]
+complete words r w end p stays = record {
+  answered = λ request recorded asked had none.
+      let whole = written_whole w p.found end none p.written in
+      elim (answered words r request recorded asked stays p.found had p.cause) [
+        | inl lacks ↦ inl (rw whole.ended lacks)
+        | inr answer ↦ inr (p.found, answer, whole)
+      ];
+}

@@ -32,8 +32,7 @@ pub record IsReadable (r : Reads) (file : List ℕ) (recorded : RecordView) : Ty
 
 -- A record that is there, or a record to be made, and no fault: what the request asks for of it was written whole, a report,
 -- a text in version 2 or a summary; or memory ran out.
-abbrev pub IsComplete : Arguments → Reads → Writes → End → Type 0
-IsComplete words r w end =
-    (request : Request) (recorded : RecordView) → requested words ≡ Some request → IsRecordOf (IsReadable r) request recorded
-    → IsFaultless w.before.faults w.after.faults
-    → (end.status ≡ 5) ⊎ ((found : Outcome) × IsAnswerTo request recorded found × IsWrittenWhole w found end)
+pub record IsComplete (words : Arguments) (r : Reads) (w : Writes) (end : End) : Type 0 where
+  pub answered : (request : Request) (recorded : RecordView) → requested words ≡ Some request
+      → IsRecordOf (IsReadable r) request recorded → IsFaultless w.before.faults w.after.faults
+      → (end.status ≡ 5) ⊎ ((found : Outcome) × IsAnswerTo request recorded found × IsWrittenWhole w found end)

@@ -61,7 +61,8 @@ IsRecordOf Is (Make number count) recorded = recorded ≡ generated number count
 -- in a row. What is migrated is the canonical text in version 2, by which it means the same record but for its version. A
 -- record's text names the files of its streams, and has no event of them.
 abbrev pub IsAnswerTo : Request → RecordView → Outcome → Type 0
-IsAnswerTo (Play file history idle) recorded (WasPlayed played text) = IsResultOf idle recorded played × (text.items ≡ whole_report recorded history played)
+IsAnswerTo (Play file history idle) recorded (WasPlayed played text) =
+    IsResultOf idle recorded played × (text.items ≡ whole_report recorded history played)
 IsAnswerTo (Migrate file) recorded (Migrated text) =
     (text.items ≡ record_text (upgraded recorded))
     × (meaning text.items ≡ Ok (record (upgraded recorded) { streams = replicate (length recorded.streams) [] }))
