@@ -90,7 +90,7 @@ pub record FollowsLines (r : RecordView) (d : Description) (wait : Option Waitin
   pub folded : IsFolded role d history a.job
   -- the view that its result has is of the device's size; joysticks and owners have none
   pub sized : (is_joy role || is_owner role) ≡ false → IsSizedFor d.slots a.job.reading.view
-  -- each event that it took is such
+  -- of each event that it took IsEventTaken holds
   pub took : (k : ℕ) (taken : Taken) → slice_get a.job.sight k ≡ Some (Took taken) → IsEventTaken d history role (take (suc k) a.job.sight) taken
   -- an owner's calls are the feedback calls of its device, which kept no other ones
   pub owned : role ≡ Owner → HasOwned d history (rooms_of (lines_by a.actor r.lines)) a.owning
