@@ -14,7 +14,8 @@ returns-in-Ok c = record {
       let joys = promised-joys None made c.in-Ok.played done.came.promised in
       let owners = promised-owners None made c.in-Ok.played done.came.promised in
       let full =
-      asked-not_full words c.args.number c.args.count c.in-Ok.played asked (done.came.in_order refl) joys owners in
+      asked-not_full words c.args.number c.args.count c.in-Ok.played asked (done.came.in_order refl)
+      joys owners in
       record {
         request = Make c.args.number c.args.count;
         asked = asked;
