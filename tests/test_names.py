@@ -41,6 +41,10 @@ CRATE_ROW = re.compile(r"^\| `(inp_\w+)` \| (.*) \|$", re.M)
 COMMENTED = re.compile(r"^\s*(?:--|//[/!]?)(?: (.*))?$", re.M)
 FILE = re.compile(r"`(?:crates/)?(?:(inp_\w+)/)?((?:proofs|specs|src)/(?:\w+/)*\w+\.(?:antt|rt))`")
 MARK = re.compile(r"^\s*(?:--|//[/!]?) ?", re.M)
+# A method, a variant or a constant of a type, as code has it; and what types, and what else, the sources declare.
+MEMBER = re.compile(r"\b([A-Z]\w+)::(\w+)")
+TYPE = re.compile(r"^\s*(?:pub(?:\(crate\))? )?(?:struct|enum|trait|type) (\w+)", re.M)
+DECLARED = re.compile(r"\b(?:fn|const) (\w+)|^\s+([A-Z]\w*)(?:\(|,| \{)", re.M)
 # A fact, named as all facts are whose name is no verb.
 FACT = re.compile(r"`(?:\w+\.)?((?:Is|Are|Has)[A-Z]\w*)`")
 # A row of the way of an event: its functions, and how many they are.
@@ -232,6 +236,15 @@ def sections_of_the_same_page():
             yield page, name, name in sections(page)
 
 
+def members_of_pages():
+    """Where the type is one of the crates, some source declares the name."""
+    sources = "\n".join(path.read_text() for _, path in files_of_crates("src/**/*.rt"))
+    types, there = set(TYPE.findall(sources)), {name for names in DECLARED.findall(sources) for name in names}
+    for page in PAGES:
+        code = " ".join(re.findall(r"`([^`\n]+)`", page.read_text()))
+        yield from ((page, f"{kind}::{name}", name in there) for kind, name in MEMBER.findall(code) if kind in types)
+
+
 def callers():
     for path, piece in quoted((DOCS / "CALLING.md").read_text()):
         yield path, piece, f"\n{piece}\n" in f"\n{unindented((TOP / path).read_text())}\n"
@@ -254,7 +267,7 @@ def functions_of_the_way():
 NAMED = {definitions_of_pages: 400, lemmas_of_pages: 8, lemmas_of_crates: 30, files_that_crates_name: 80,
          files_that_pages_name: 100, promises_of_crates: 80, facts_of_crates: 50, facts_of_pages: 0,
          links_of_pages: 100, sections_that_are_cited: 100, sections_of_the_same_page: 0, callers: 20,
-         instances: 0, functions_of_the_way: 20}
+         members_of_pages: 200, instances: 0, functions_of_the_way: 20}
 
 # A row of the definitions: its name, the word or how many words stand before, for whom, and what its words
 # are.
