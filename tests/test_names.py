@@ -41,10 +41,11 @@ CRATE_ROW = re.compile(r"^\| `(inp_\w+)` \| (.*) \|$", re.M)
 COMMENTED = re.compile(r"^\s*(?:--|//[/!]?)(?: (.*))?$", re.M)
 FILE = re.compile(r"`(?:crates/)?(?:(inp_\w+)/)?((?:proofs|specs|src)/(?:\w+/)*\w+\.(?:antt|rt))`")
 MARK = re.compile(r"^\s*(?:--|//[/!]?) ?", re.M)
-# A method, a variant or a constant of a type, as code has it; and what types, and what else, the sources declare.
+# A method, a variant or a constant of a type, as code has it. The blocks that declare them, and a type's other name.
 MEMBER = re.compile(r"\b([A-Z]\w+)::(\w+)")
-TYPE = re.compile(r"^\s*(?:pub(?:\(crate\))? )?(?:struct|enum|trait|type) (\w+)", re.M)
+BLOCK = re.compile(r"^(?:pub(?:\(crate\))? )?(?:impl|trait|enum)\b([^{]*?)\{\n(.*?)^\}", re.M | re.S)
 DECLARED = re.compile(r"\b(?:fn|const) (\w+)|^\s+([A-Z]\w*)(?:\(|,| \{)", re.M)
+ALIAS = re.compile(r"^pub type (\w+) = (\w+)", re.M)
 # A fact, named as all facts are whose name is no verb.
 FACT = re.compile(r"`(?:\w+\.)?((?:Is|Are|Has)[A-Z]\w*)`")
 # A row of the way of an event: its functions, and how many they are.
@@ -236,13 +237,26 @@ def sections_of_the_same_page():
             yield page, name, name in sections(page)
 
 
+def members():
+    """What each type of the crates and of the package for Rust has: functions, variants and constants."""
+    sources = [path.read_text() for _, path in files_of_crates("src/**/*.rt")]
+    sources += [path.read_text() for path in TOP.glob("bindings/rust/src/*.rs")]
+    found = {}
+    for head, body in (block for text in sources for block in BLOCK.findall(text)):
+        names = [name for pair in DECLARED.findall(body) for name in pair]
+        for kind in re.findall(r"\b[A-Z]\w*", head):
+            found.setdefault(kind, set()).update(names)
+    for name, kind in (alias for text in sources for alias in ALIAS.findall(text)):
+        found.setdefault(name, set()).update(found.get(kind, ()))
+    return found
+
+
 def members_of_pages():
-    """Where the type is one of the crates, some source declares the name."""
-    sources = "\n".join(path.read_text() for _, path in files_of_crates("src/**/*.rt"))
-    types, there = set(TYPE.findall(sources)), {name for names in DECLARED.findall(sources) for name in names}
+    there = members()
     for page in PAGES:
         code = " ".join(re.findall(r"`([^`\n]+)`", page.read_text()))
-        yield from ((page, f"{kind}::{name}", name in there) for kind, name in MEMBER.findall(code) if kind in types)
+        named = [(kind, name) for kind, name in MEMBER.findall(code) if kind in there]
+        yield from ((page, f"{kind}::{name}", name in there[kind]) for kind, name in named)
 
 
 def callers():
